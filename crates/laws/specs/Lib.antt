@@ -1,0 +1,4 @@
+pub mod Lists
+pub mod Order
+pub mod Faults
+pub mod Reached

@@ -1,0 +1,10 @@
+pub mod Lists
+pub mod Words
+pub mod Problem
+pub mod Knuth
+pub mod Order
+pub mod Links
+pub mod Walk
+pub mod Calls
+pub mod Door
+pub mod Cases

@@ -1,0 +1,14 @@
+pub mod Ring
+pub mod Rings
+pub mod Undo
+pub mod Nodes
+pub mod Touch
+pub mod Views
+pub mod Shows
+pub mod Points
+pub mod Met
+pub mod Fresh
+pub mod Build
+pub mod Again
+pub mod Sizes
+pub mod Reached
