@@ -1,0 +1,1 @@
+// Theorems about the definitions of `rules` alone: see specs/Theorems.antt. There is no code here.
