@@ -1,0 +1,95 @@
+//! Calls of the host door: bytes in, a number and bytes out.
+
+use model::calls::host_door;
+
+use crate::Random;
+use crate::author::MOST_STOPS;
+use crate::problems;
+use crate::trace::Trace;
+
+/// The project's door, behind a safe signature.
+pub type Door = fn(&[u8], u64, u64, &mut [u8]) -> u32;
+
+const UNWRITTEN: u8 = 0xa5;
+
+/// One call: the problem's bytes, the solution's number, the allowance, the length of the output.
+pub struct Call {
+    pub bytes: Vec<u8>,
+    pub number: u64,
+    pub allowance: u64,
+    pub room: usize,
+}
+
+impl Call {
+    pub fn random(words: &[i32], random: &mut Random) -> Call {
+        let mut bytes: Vec<u8> = words.iter().flat_map(|word| word.to_le_bytes()).collect();
+        if random.one_in(16) {
+            bytes.truncate(random.below(bytes.len() + 1));
+        }
+        let np = words.first().map_or(0, |&np| np.clamp(0, 1_024) as usize);
+        let exact = 4 + 4 * np;
+        let many = random.below(12) as u64;
+        Call {
+            bytes,
+            number: random.pick(&[0, 0, 0, 1, 2, 3, many, u64::MAX]),
+            allowance: random.pick(&[0, 1, 2, 3, many, 1_000, u64::MAX, u64::MAX]),
+            room: random.pick(&[exact, exact, exact, exact + 7, exact + 7, exact + 64, exact + 64, exact - 1, 0, 4]),
+        }
+    }
+
+    /// The model's answer and bytes, held to dlx and to the project's door where there are such.
+    pub fn judge(&self, trace: Option<&Trace>, door: Option<Door>) -> u32 {
+        let mut out = vec![UNWRITTEN; self.room];
+        let answer = host_door(&self.bytes, self.number, self.allowance, &mut out);
+        if let Some(trace) = trace {
+            let judged = trace.host_door(self.number, self.allowance, &vec![UNWRITTEN; self.room]);
+            assert_eq!((answer, &out), (judged.0, &judged.1), "model and dlx differ at {}", self.text());
+        }
+        if let Some(door) = door {
+            let mut written = vec![UNWRITTEN; self.room];
+            let answered = door(&self.bytes, self.number, self.allowance, &mut written);
+            assert_eq!((answered, &written), (answer, &out), "the door and the model differ at {}", self.text());
+        }
+        answer
+    }
+
+    fn text(&self) -> String {
+        format!("number {} allowance {} room {} bytes {:?}", self.number, self.allowance, self.room, self.bytes)
+    }
+}
+
+/// A few calls on one problem; what each answered.
+pub fn exercise(words: &[i32], random: &mut Random, door: Option<Door>) -> Vec<u32> {
+    let whole: Vec<u8> = words.iter().flat_map(|word| word.to_le_bytes()).collect();
+    let mut enough = vec![UNWRITTEN; 4 + 4 * 64];
+    let is_sound = matches!(host_door(&whole, 0, 0, &mut enough), 0 | 20 | 21);
+    let trace = if is_sound { Trace::of(words, MOST_STOPS) } else { None };
+    let call = |_| {
+        let call = Call::random(words, random);
+        call.judge(trace.as_ref().filter(|_| call.bytes == whole), door)
+    };
+    (0..4).map(call).collect()
+}
+
+/// The door's own limits: items, options and entries at each and one beyond.
+pub fn at_the_limits() -> Vec<Vec<i32>> {
+    let one = |np: i32, ns: i32| problems::words(np, ns, &vec![vec![(0, 0)]]);
+    let options = |count: usize| problems::words(1, 0, &vec![vec![(0, 0)]; count]);
+    let entries = |last: i32| {
+        let full: Vec<(i32, i32)> = (0..16).map(|item| (item, 0)).collect();
+        let mut options = vec![full; 16];
+        options.push((0..last).map(|item| (item, 0)).collect());
+        problems::words(16, 0, &options)
+    };
+    vec![
+        one(1, 63),
+        one(1, 64),
+        one(64, 0),
+        one(65, 0),
+        one(i32::MAX, i32::MAX),
+        options(64),
+        options(65),
+        entries(0),
+        entries(1),
+    ]
+}
