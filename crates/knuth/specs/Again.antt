@@ -23,9 +23,10 @@ use Rattle.rules.specs.Walk.{Walk, resume}
 use Rattle.rules.specs.Calls.{counts-fit, blank, phase-after, moved, started, given-up, lent-point, path-words, search-refusal, SetUpLent, set-up-room, set-up-as, set-up-call, NextLent, NextOutcome, next-call, next-said, GiveUpOutcome, give-up-room, give-up-call}
 use Rattle.laws.specs.Lists.{and-left, and-right, and-both}
 use Rattle.tables.specs.Sizes.{fresh-size}
+use Rattle.laws.specs.Reached.{path-length}
 use Rattle.knuth.specs.Lists.{is-true, over-room, take-over, each-replicate}
 use Rattle.knuth.specs.Counts.{within}
-use Rattle.knuth.specs.Points.{path-length, point-again}
+use Rattle.knuth.specs.Points.{point-again}
 use Rattle.knuth.specs.Series.{next-refusal, Accepted, stands-at, problem, Begins, beside, with-spare, give-up-part, after-give-up, Seen, after-answer, series}
 use Rattle.knuth.specs.Answers.{answer-state, exhausted-said}
 use Rattle.knuth.specs.Stands.{Roomy, Meant, problem→, problem←, Stands, accepted→, accepted←, stands-there, next-walked, next-stands, walk-of, top-fits, top-stands}

@@ -7,7 +7,6 @@ pub mod Ends
 pub mod Lists
 pub mod Nodes
 pub mod Points
-pub mod Sizes
 pub mod Series
 pub mod Counts
 pub mod Answers

@@ -1,13 +1,12 @@
 -- The test for refusal 10 reads a point that the search reaches back from its path.
 use mathlib.Core.Path.{_≡_, refl, sym, ap, _∙_}
 use mathlib.Core.Bool.{Bool, _&&_}
-use mathlib.Core.Option.{Option, none, some}
+use mathlib.Core.Option.{some}
 use mathlib.Core.List.{List, [], _∷_, _++_, append-assoc, append-nil}
 use Prim.Native.Nat.{ℕ, _-_, _≤_}
-use native.Mathlib.Omega.{arith}
 use lib.Dec.{T, eqb→eq, eqb-refl, le→leb, leb·zero}
 use lib.IntN.{ℤ, pos, negsuc}
-use lib.ListN.{length, take, drop, replicate, length-append, length-replicate}
+use lib.ListN.{length, take, drop, replicate}
 use lib.Seq.{take-at, drop-at}
 use Rattle.rules.specs.declared.Phase.{Phase}
 use Rattle.rules.specs.declared.Phase.the-variants.{Done}
@@ -15,12 +14,12 @@ use Rattle.rules.specs.declared.State.{State}
 use Rattle.rules.specs.Lists.{each, when}
 use Rattle.rules.specs.Words.{same, same-words}
 use Rattle.rules.specs.Problem.{Problem}
-use Rattle.rules.specs.Order.{Choice, Rule, node, choices, open-options}
+use Rattle.rules.specs.Order.{Rule, node, choices, open-options}
 use Rattle.rules.specs.Links.{table}
 use Rattle.rules.specs.Walk.{Level, made, chosen, in-order, End, solution, exhausted, paused}
-use Rattle.rules.specs.Calls.{blank, phase-after, level-of, phase-fits, depth-fits, levels, in-phase, path-point, in-table, point, path-words}
+use Rattle.rules.specs.Calls.{blank, phase-after, level-of, phase-fits, depth-fits, levels, in-phase, path-point, point, path-words}
 use Rattle.laws.specs.Lists.{and-left, and-both}
-use Rattle.laws.specs.Reached.{Reached, root, level, when-some}
+use Rattle.laws.specs.Reached.{Reached, root, level, when-some, in-order-length, in-table-some}
 use Rattle.knuth.specs.Lists.{each-replicate, when-true}
 use Rattle.knuth.specs.Nodes.{choices-nodes, level-back}
 use Rattle.knuth.specs.Ends.{Fits}
@@ -36,22 +35,8 @@ unfolding same-words
 words-refl [] = tt
 words-refl (x ∷ xs) = and-both (same x x) (same-words xs xs) (same-refl x) (words-refl xs)
 
-pub in-order-length : {A : Type 0} (f : Choice → A) (s : List Level) → length (in-order f s) ≡ length s
-unfolding in-order
-in-order-length f [] = refl
-in-order-length f (v ∷ s) = omega (arith, length-append (in-order f s) (f (v .tried) ∷ []), in-order-length f s)
-
-pub path-length : (np : ℕ) (s : List Level) → length s ≤ np → length (path-words np s) ≡ np
-unfolding path-words
-path-length np s h =
-    omega (arith, length-append (in-order (λ c. pos (node c)) s) (replicate (np - length s) (pos 0)), in-order-length (λ c. pos (node c)) s, length-replicate (np - length s) (pos 0))
-
 module _ (P : Problem) (rule : Rule) where
   -- ---- a search that is done
-
-  in-table-some : (t : List ℤ) (o : Option (List Level)) {s : List Level} → in-table P rule t o ≡ some s → o ≡ some s
-  in-table-some t none e = e
-  in-table-some t (some s′) e = when-some (same-words t (table P (made s′))) e .1
 
   -- "done asks depth 0"
   done-top : (st : State) (t path : List ℤ) {s : List Level} → st .phase ≡ Done → point P rule st t path ≡ some s → st .depth ≡ 0
@@ -59,7 +44,7 @@ module _ (P : Problem) (rule : Rule) where
   done-top st t path d e =
       let deep : Bool = depth-fits (st .phase) (P .np) (st .depth) in
       let clear : Bool = each (λ w. same w (pos 0)) (drop (st .depth) path) in
-      let a = when-some (deep && clear) (in-table-some t (path-point P rule st path) e) in
+      let a = when-some (deep && clear) (in-table-some P rule t (path-point P rule st path) e .0) in
       eqb→eq (st .depth) 0 (rw d at (and-left deep clear (a .0)))
 
   -- it stands where a blank one does
@@ -69,7 +54,7 @@ module _ (P : Problem) (rule : Rule) where
       let clear : Bool = each (λ w. same w (pos 0)) path in
       let top : path-point P rule st path ≡ when clear (some []) = rw (d, done-top st t path d e) in
       let same-top : path-point P rule blank path ≡ when clear (some []) = rw (leb·zero (P .np), p) in
-      let u : some [] ≡ some s = when-some clear (rw top at (in-table-some t (path-point P rule st path) e)) .1 in
+      let u : some [] ≡ some s = when-some clear (rw top at (in-table-some P rule t (path-point P rule st path) e .0)) .1 in
       rw same-top (rw top at e ∙ sym u)
 
   -- ---- what is reached passes

@@ -23,13 +23,12 @@ use Rattle.rules.specs.Walk.{Level, made, numbers, End, solution, exhausted, pa
 use Rattle.rules.specs.Calls.{capped, counts-fit, profile-from, moved, started, levels-or-top, path-words, lent-point, search-refusal, NextLent, next-room, found-words, walked, next-call}
 use Rattle.laws.specs.Lists.{and-left, and-right, and-both}
 use Rattle.laws.specs.Order.{pick-sound}
-use Rattle.laws.specs.Reached.{Reached, root, point-reached}
+use Rattle.laws.specs.Reached.{Reached, root, point-reached, in-order-length, path-length}
 use Rattle.laws.specs.Faults.{need-holds, first-none}
-use Rattle.tables.specs.Sizes.{fresh-size}
+use Rattle.tables.specs.Sizes.{fresh-size, table-size}
 use Rattle.knuth.specs.Lists.{is-true, over-length, over-room, take-over}
 use Rattle.knuth.specs.Ends.{Ends, Fits, resume-ends, reached-deep}
-use Rattle.knuth.specs.Points.{in-order-length, path-length, point-back}
-use Rattle.knuth.specs.Sizes.{table-size}
+use Rattle.knuth.specs.Points.{point-back}
 use Rattle.knuth.specs.Series.{Accepted, stands-at, problem}
 use Rattle.knuth.specs.Counts.{within, capped-within, profile-length, profile-within}
 

@@ -21,10 +21,10 @@ use Rattle.rules.specs.Walk.{Level, made, numbers, End, solution, exhausted, pa
 use Rattle.rules.specs.Calls.{counts-fit, phase-after, moved, started, started-in, NextLent, next-answer, report-call, walked}
 use Rattle.laws.specs.Lists.{and-left, and-right}
 use Rattle.laws.specs.Order.{pick-sound}
+use Rattle.laws.specs.Reached.{in-order-length}
 use Rattle.knuth.specs.Lists.{is-true, over-length, take-over, over-same}
 use Rattle.knuth.specs.Counts.{within, capped-twice, capped-none, profile-none}
 use Rattle.knuth.specs.Twice.{table-twice, path-twice, counted-twice}
-use Rattle.knuth.specs.Points.{in-order-length}
 use Rattle.knuth.specs.Trace.{Trace, nothing, _then_, to-come, remains, found-by, made-by}
 use Rattle.knuth.specs.Walks.{nothing-then, then-assoc, resume-tells}
 use Rattle.knuth.specs.Adds.{resume-spends}

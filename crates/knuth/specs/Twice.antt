@@ -11,9 +11,9 @@ use Rattle.rules.specs.Order.{Choice}
 use Rattle.rules.specs.Links.{table}
 use Rattle.rules.specs.Walk.{Level}
 use Rattle.rules.specs.Calls.{profile-from, path-words}
+use Rattle.laws.specs.Reached.{path-length}
 use Rattle.knuth.specs.Lists.{take-over, over-over}
-use Rattle.knuth.specs.Points.{path-length}
-use Rattle.knuth.specs.Sizes.{table-same}
+use Rattle.tables.specs.Sizes.{table-same}
 use Rattle.knuth.specs.Counts.{profile-length, profile-twice}
 
 pub table-twice : (P : Problem) (cs cs′ : List Choice) (t : List ℤ) → over (table P cs′) (over (table P cs) t) ≡ over (table P cs′) t

@@ -1,12 +1,12 @@
 -- Laws of the lists that `rules` defines: membership, lengths, pairs of members.
-use mathlib.Core.Path.{_≡_, refl, sym, ap, _∙_, subst}
-use mathlib.Core.Logic.{_⊎_, inl, inr, _≢_}
+use mathlib.Core.Path.{_≡_, refl, ap, _∙_}
+use mathlib.Core.Logic.{_⊎_, inl, inr}
 use mathlib.Core.Bool.{Bool, true, false, not, _&&_, _||_}
 use mathlib.Core.List.{List, [], _∷_, _++_, map, List·Memᴰ as Mem, List·Memᴰ·head as here, List·Memᴰ·tail as there}
 use mathlib.Core.List.{append-assoc, List·Memᴰ·not-nil as not-nil, List·Memᴰ·cases-cons as cases-cons, Memᴰ·append-left, Memᴰ·append-right, List·Memᴰ·append-cases as append-cases, Memᴰ·of-map}
 use Prim.Native.Nat.{ℕ, zero, suc, _+_, _≤_, _<_}
 use native.Mathlib.Omega.{arith}
-use lib.Dec.{T, eqb, ltb, eqb→eq, eqb-refl}
+use lib.Dec.{T, eqb, eqb→eq, eqb-refl}
 use lib.ListN.{length, take, drop}
 use Rattle.rules.specs.Lists.{also, keep, each, has, flat, run}
 

@@ -1,20 +1,19 @@
 -- Laws of the order of the search: what the tests say, the kept options, and what the order rule picks.
 use mathlib.Core.Path.{_≡_, refl, sym, ap, _∙_, subst}
 use mathlib.Core.Logic.{_⊎_, inl, inr, _≢_}
-use mathlib.Core.Bool.{Bool, true, false, not, _&&_, _||_}
-use mathlib.Core.Option.{Option, none, some}
-use mathlib.Core.List.{List, [], _∷_, _++_, map, List·Memᴰ as Mem, List·Memᴰ·head as here, List·Memᴰ·tail as there}
+use mathlib.Core.Bool.{Bool, true, false, not, _||_}
+use mathlib.Core.Option.{none, some}
+use mathlib.Core.List.{List, [], _∷_, map, List·Memᴰ as Mem, List·Memᴰ·head as here, List·Memᴰ·tail as there}
 use mathlib.Core.List.{List·Memᴰ·not-nil as not-nil, List·Memᴰ·cases-cons as cases-cons, Memᴰ·map as map-in, Memᴰ·of-map as map-mem}
-use Prim.Native.Nat.{ℕ, zero, suc, _+_, _≤_, _<_}
+use Prim.Native.Nat.{ℕ, zero, suc, _+_, _<_}
 use native.Mathlib.Omega.{arith}
-use native.Mathlib.Decide.{decLt}
-use lib.Dec.{T, eqb, ltb, eqb→eq, eqb-refl, ltb→lt, lt→ltb, T-not, not-T}
+use lib.Dec.{T, eqb, ltb, eqb→eq, eqb-refl, T-not, not-T}
 use lib.ListN.{length, getD}
 use Rattle.rules.specs.Lists.{also, keep, each, has, run}
-use Rattle.laws.specs.Lists.{Apart, apart-nil, apart-cons, apart-keep, apart-map, apart-flat, and-left, and-right, and-both, or-cases, or-left, or-right, tested, keep-mem, keep-in, each-at, each-all, has-at, has-in, run-mem, run-in, also-mem, also-rest, also-head}
-use Rattle.rules.specs.Problem.{Entry, Problem, items}
-use Rattle.rules.specs.Knuth.{option, Has, Shared, Agree}
-use Rattle.rules.specs.Order.{has-item, one-colour, agree, Placed, kept, spacer-after, place, placed, open-options, open-items, Choice, place-of, choices, Weighed, lighter, least-from, least, Rule, pick}
+use Rattle.laws.specs.Lists.{Apart, apart-nil, apart-cons, apart-keep, apart-map, and-left, and-right, and-both, or-cases, or-left, or-right, tested, keep-mem, keep-in, each-at, each-all, has-at, has-in, run-mem, run-in, also-mem, also-rest, also-head}
+use Rattle.rules.specs.Problem.{Entry, Problem}
+use Rattle.rules.specs.Knuth.{option, Has}
+use Rattle.rules.specs.Order.{has-item, one-colour, agree, Placed, kept, spacer-after, place, open-options, open-items, Choice, place-of, choices, Weighed, lighter, least-from, least, Rule, pick}
 
 -- ---- tests
 

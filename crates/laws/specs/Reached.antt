@@ -3,11 +3,11 @@ use mathlib.Core.Path.{_≡_, refl, sym, ap, _∙_}
 use mathlib.Core.Bool.{Bool, true, false, _&&_, cond}
 use mathlib.Core.Option.{Option, none, some}
 use mathlib.Core.List.{List, [], _∷_, _++_, append-assoc}
-use Prim.Native.Nat.{ℕ, zero, suc}
+use Prim.Native.Nat.{ℕ, zero, suc, _-_, _≤_}
 use native.Mathlib.Omega.{arith}
 use lib.Dec.{T, eqb, eqb→eq}
 use lib.IntN.{ℤ, pos, negsuc}
-use lib.ListN.{length, take, drop}
+use lib.ListN.{length, take, drop, replicate, length-append, length-replicate}
 use Rattle.rules.specs.declared.Phase.{Phase}
 use Rattle.rules.specs.declared.Phase.the-variants.{Ready, Solution, Done}
 use Rattle.rules.specs.declared.State.{State}
@@ -16,8 +16,8 @@ use Rattle.rules.specs.Words.{same, same-words}
 use Rattle.rules.specs.Problem.{Problem}
 use Rattle.rules.specs.Order.{Choice, Rule, node, choices, open-options}
 use Rattle.rules.specs.Links.{table}
-use Rattle.rules.specs.Walk.{Level, made, chosen, Move, back-to, retreat, go-into, enter, paused, Walk, stop, visiting, follow, at-point, walk, resume}
-use Rattle.rules.specs.Calls.{level-of, deeper, phase-fits, depth-fits, taken, levels, in-phase, path-point, in-table, point}
+use Rattle.rules.specs.Walk.{Level, made, chosen, in-order, Move, back-to, retreat, go-into, enter, paused, Walk, stop, visiting, follow, at-point, walk, resume}
+use Rattle.rules.specs.Calls.{level-of, deeper, phase-fits, depth-fits, taken, levels, in-phase, path-point, in-table, point, path-words}
 use Rattle.laws.specs.Lists.{and-left, and-right}
 
 -- At each level the item that the rule takes is tried, and the choices from the one tried on are the last of its open ones.
@@ -45,6 +45,19 @@ words-eq (x ∷ xs) [] t = absurd t
 words-eq (x ∷ xs) (y ∷ ys) t =
     let e = same-eq x y (and-left (same x y) (same-words xs ys) t) in
     rw (e, words-eq xs ys (and-right (same x y) (same-words xs ys) t))
+
+-- ---- a path's words
+
+pub in-order-length : {A : Type 0} (f : Choice → A) (s : List Level) → length (in-order f s) ≡ length s
+unfolding in-order
+in-order-length f [] = refl
+in-order-length f (v ∷ s) = length-append (in-order f s) (f (v .tried) ∷ []) ∙ omega (arith, in-order-length f s)
+
+pub path-length : (np : ℕ) (s : List Level) → length s ≤ np → length (path-words np s) ≡ np
+unfolding path-words
+path-length np s h =
+    length-append (in-order (λ c. pos (node c)) s) (replicate (np - length s) (pos 0))
+    ∙ omega (arith, in-order-length (λ c. pos (node c)) s, length-replicate (np - length s) (pos 0))
 
 -- the level found tries one of the choices
 pub level-at : (q : ℕ) (cs : List Choice) {v : Level} → level-of q cs ≡ some v → (xs : List Choice) × (cs ≡ xs ++ v .tried ∷ v .left)
@@ -124,11 +137,11 @@ module _ (P : Problem) (rule : Rule) where
       go none p e rec = absurd (let z : _≡_ {A = ℕ} 0 1 = cc in omega arith)
       go (some i) p e rec = last i p (level-of q (choices i (open-options P (chosen s)))) refl e rec
 
-  in-phase-some : (ph : Phase) (o : Option (List Level)) {s : List Level} → in-phase P rule ph o ≡ some s → o ≡ some s
+  pub in-phase-some : (ph : Phase) (o : Option (List Level)) {s : List Level} → in-phase P rule ph o ≡ some s → o ≡ some s
   in-phase-some ph none e = e
   in-phase-some ph (some s) e = when-some (phase-fits ph (rule (chosen s))) e .1
 
-  in-table-some : (t : List ℤ) (o : Option (List Level)) {s : List Level} → in-table P rule t o ≡ some s → (o ≡ some s) × (t ≡ table P (made s))
+  pub in-table-some : (t : List ℤ) (o : Option (List Level)) {s : List Level} → in-table P rule t o ≡ some s → (o ≡ some s) × (t ≡ table P (made s))
   in-table-some t none e = absurd (let z : _≡_ {A = ℕ} 0 1 = cc in omega arith)
   in-table-some t (some s′) {s} e =
       let w = when-some (same-words t (table P (made s′))) e in

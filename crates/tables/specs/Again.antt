@@ -1,19 +1,18 @@
 -- Going back: a level undone, and the following choice of its item.
-use mathlib.Core.Path.{_≡_, refl, sym, ap, _∙_, subst}
-use mathlib.Core.Bool.{Bool, true, false, not}
-use mathlib.Core.List.{List, [], _∷_, _++_, map, foldl, List·Memᴰ as Mem}
-use Prim.Native.Nat.{ℕ, suc, _+_, _<_}
-use native.Mathlib.Omega.{arith}
+use mathlib.Core.Path.{_≡_, refl, sym, ap, _∙_}
+use mathlib.Core.Bool.{not}
+use mathlib.Core.List.{List, _∷_, _++_, map, foldl, List·Memᴰ as Mem}
+use Prim.Native.Nat.{ℕ, _+_, _<_}
 use lib.Dec.{T}
 use lib.IntN.{ℤ}
 use Rattle.rules.specs.Problem.{Entry, Problem, items}
 use Rattle.rules.specs.Order.{has-item, Choice, node}
-use Rattle.rules.specs.Links.{Event, own, others, linked, touch, try, choose, committed, held, events, fresh, table, apply}
+use Rattle.rules.specs.Links.{own, linked, touch, try, choose, held, events, fresh, table, apply}
 use Rattle.laws.specs.Faults.{Good}
 use Rattle.tables.specs.Fresh.{fresh-shows}
 use Rattle.tables.specs.Met.{bare-own}
 use Rattle.tables.specs.Nodes.{Of, linked-of}
-use Rattle.tables.specs.Shows.{Shows, view, since, since-now, Leads, touch-leads, try-leads, choose-leads, events-leads, point-shows, one-entry, Played, one-more}
+use Rattle.tables.specs.Shows.{Shows, view, since-now, touch-leads, try-leads, events-leads, point-shows, one-entry, Played}
 use Rattle.tables.specs.Undo.{undo-all}
 use Rattle.tables.specs.Views.{foldl-append}
 

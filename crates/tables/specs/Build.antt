@@ -1,7 +1,7 @@
 -- The fresh table made an entry at a time, as `init_links` does.
 use mathlib.Core.Path.{_≡_, refl, sym, ap, _∙_, subst}
 use mathlib.Core.Logic.{_⊎_, inl, inr, _≢_}
-use mathlib.Core.Bool.{Bool, true, false, not, _&&_, _||_}
+use mathlib.Core.Bool.{Bool, true, false, _||_}
 use mathlib.Core.List.{List, [], _∷_, _++_, map, append-assoc, append-nil, List·Memᴰ as Mem, List·Memᴰ·head as here, List·Memᴰ·tail as there}
 use mathlib.Core.List.{List·Memᴰ·not-nil as not-nil, List·Memᴰ·eq-of-singleton as of-singleton, Memᴰ·map as map-in}
 use Prim.Native.Nat.{ℕ, zero, suc, _+_, _*_, _-_, _≤_, _<_}
@@ -15,15 +15,14 @@ use borrow.Author.Tests.{eq-eqb, ne-eqb}
 use Rattle.rules.specs.Lists.{also, keep, each, has, flat, run}
 use Rattle.rules.specs.Words.{nat}
 use Rattle.rules.specs.Problem.{Entry, Problem, items}
-use Rattle.rules.specs.Knuth.{Has}
-use Rattle.rules.specs.Order.{has-item, agree, Placed, kept, spacer-after, place, placed, Choice, node, place-of, choices}
-use Rattle.rules.specs.Links.{Node, nodes-from, previous, first-or, following, last-or, column, ring-words, fresh, left, right, up, down, top, colour-at, link, join}
-use Rattle.laws.specs.Lists.{Apart, apart-nil, apart-cons, also-mem, also-rest, also-head, length-run}
+use Rattle.rules.specs.Order.{has-item, agree, Placed, kept, spacer-after, place, placed, node, place-of, choices}
+use Rattle.rules.specs.Links.{Node, nodes-from, column, ring-words, fresh, up, down, top, colour-at, link, join}
+use Rattle.laws.specs.Lists.{apart-nil, apart-cons, length-run}
 use Rattle.laws.specs.Faults.{Good, ranged, Simple, simple}
-use Rattle.tables.specs.Fresh.{flat-length, flat-getD, getD-left, getD-right, run-getD, four-suc, ring-length, fresh-length, fresh-early, fresh-unused, fresh-spacer, fresh-header, fresh-low, fresh-node, fresh-end, fresh-before, fresh-named, fresh-spaced, column-stands, linked-column, fresh-lists}
-use Rattle.tables.specs.Nodes.{nodes-in, nodes-at, nodes-range, placed-range, span, nodes, linked-in}
-use Rattle.tables.specs.Ring.{Linked, Free, Distinct}
-use Rattle.tables.specs.Rings.{Rings, rings-links, rings-append, rings-lists, more, more-mem-of, last-in, following-in, before-in, behind-in, free-in}
+use Rattle.tables.specs.Fresh.{flat-length, flat-getD, getD-left, getD-right, run-getD, four-suc, ring-length, fresh-length, fresh-unused, fresh-spacer, fresh-header, fresh-low, fresh-end, fresh-before, fresh-named, fresh-spaced, column-stands, linked-column, fresh-lists}
+use Rattle.tables.specs.Nodes.{nodes-at, placed-range, span, nodes, linked-in}
+use Rattle.tables.specs.Ring.{Linked}
+use Rattle.tables.specs.Rings.{Rings, rings-links, rings-append, rings-lists, more, more-mem-of, last-in, following-in, before-in, behind-in}
 use Rattle.tables.specs.Touch.{Stands}
 use Rattle.tables.specs.Undo.{rise, word-of, join-else, third-length, third-else, third-first, third-second, third-third}
 use Rattle.tables.specs.Views.{Spaced, Named, stands-range, stands-no-spacer}

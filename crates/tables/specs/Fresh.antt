@@ -1,14 +1,14 @@
 -- The fresh table shows that nothing holds.
-use mathlib.Core.Path.{_≡_, refl, sym, ap, _∙_, subst}
+use mathlib.Core.Path.{_≡_, refl, sym, ap, _∙_}
 use mathlib.Core.Logic.{_⊎_, inl, inr, _≢_}
-use mathlib.Core.Bool.{Bool, true, false, not, _&&_, _||_}
+use mathlib.Core.Bool.{Bool, true, false, not}
 use mathlib.Core.List.{List, [], _∷_, _++_, map, List·Memᴰ as Mem, List·Memᴰ·head as here, List·Memᴰ·tail as there}
-use mathlib.Core.List.{List·Memᴰ·not-nil as not-nil, List·Memᴰ·cases-cons as cases-cons, Memᴰ·map as map-in, Memᴰ·of-map as map-mem}
+use mathlib.Core.List.{List·Memᴰ·not-nil as not-nil, Memᴰ·of-map as map-mem}
 use Prim.Native.Nat.{ℕ, zero, suc, _+_, _*_, _-_, _≤_, _<_}
 use native.Mathlib.Omega.{arith}
-use native.Mathlib.Decide.{ℕ-discrete, decLt}
+use native.Mathlib.Decide.{ℕ-discrete}
 use native.Mathlib.Numerals.{add-one}
-use lib.Dec.{T, eqb}
+use lib.Dec.{T}
 use lib.IntN.{ℤ, pos, negsuc}
 use lib.ListN.{length, getD, length-append, List·getD-append}
 use lib.Seq.{getD-append-add}
@@ -16,17 +16,16 @@ use borrow.Author.Tests.{eq-eqb, ne-eqb}
 use Rattle.rules.specs.Lists.{also, keep, each, has, flat, run}
 use Rattle.rules.specs.Words.{nat}
 use Rattle.rules.specs.Problem.{Entry, Problem, items}
-use Rattle.rules.specs.Knuth.{Has}
-use Rattle.rules.specs.Order.{agree, Placed, kept, spacer-after, place, placed, Choice, node, place-of, choices}
-use Rattle.rules.specs.Links.{Node, nodes-from, own, linked, previous, first-or, following, last-or, column, left-of, right-of, ring-words, header-words, node-words, last-node, option-words, fresh, left, right, up, down, top, colour-at, link}
-use Rattle.laws.specs.Lists.{Apart, apart-nil, apart-cons, apart-with, also-mem, run-mem, length-run, keep-all, among, strike}
+use Rattle.rules.specs.Order.{agree, Placed, kept, spacer-after, place, placed, node, place-of, choices}
+use Rattle.rules.specs.Links.{Node, nodes-from, linked, previous, first-or, following, last-or, column, left-of, right-of, ring-words, header-words, node-words, last-node, option-words, fresh, left, right, up, down, top, colour-at, link}
+use Rattle.laws.specs.Lists.{Apart, apart-nil, apart-cons, apart-with, also-mem, run-mem, length-run, keep-all, among}
 use Rattle.laws.specs.Faults.{Good, simple}
-use Rattle.tables.specs.Nodes.{Of, linked-of, nodes-in, nodes-at, nodes-range, nodes-length, place-first, placed-one, placed-range, same-item, span, nodes}
-use Rattle.tables.specs.Ring.{Linked, Free, Distinct}
+use Rattle.tables.specs.Nodes.{linked-of, nodes-in, nodes-range, nodes-length, place-first, placed-one, placed-range, same-item, span, nodes}
+use Rattle.tables.specs.Ring.{Linked, Distinct}
 use Rattle.tables.specs.Rings.{Rings, in-free, free-in}
 use Rattle.tables.specs.Shows.{Shows, view, since, removed, ring-items, marked}
 use Rattle.tables.specs.Touch.{Stands, linked-stands, linked-apart}
-use Rattle.tables.specs.Views.{View, Table, Named, Spaced, Plus, ring-head, stands-range, Same, same-table}
+use Rattle.tables.specs.Views.{View, Table, Named, Spaced, ring-head, stands-range, same-table}
 
 -- ---- words of lists put together
 

@@ -3,26 +3,26 @@ use mathlib.Core.Path.{_≡_, refl, sym, ap, _∙_, subst}
 use mathlib.Core.Logic.{_⊎_, inl, inr, _≢_}
 use mathlib.Core.Bool.{Bool, true, false, not, _&&_, _||_}
 use mathlib.Core.List.{List, [], _∷_, _++_, map, foldl, List·Memᴰ as Mem, List·Memᴰ·head as here, List·Memᴰ·tail as there}
-use mathlib.Core.List.{append-assoc, map-append, List·Memᴰ·not-nil as not-nil, List·Memᴰ·eq-of-singleton as of-singleton, Memᴰ·append-left as in-left, Memᴰ·append-right as in-right, Memᴰ·map as map-in, Memᴰ·of-map as map-mem}
-use Prim.Native.Nat.{ℕ, zero, suc, _+_, _-_, _≤_, _<_}
+use mathlib.Core.List.{append-assoc, map-append, List·Memᴰ·not-nil as not-nil, Memᴰ·append-left as in-left, Memᴰ·append-right as in-right, Memᴰ·map as map-in, Memᴰ·of-map as map-mem}
+use Prim.Native.Nat.{ℕ, zero, suc, _+_, _-_, _<_}
 use native.Mathlib.Omega.{arith}
 use lib.Dec.{T, T-not, not-T, eqb}
-use lib.IntN.{ℤ, pos, negsuc}
+use lib.IntN.{ℤ, pos}
 use lib.ListN.{length, getD, take, drop}
-use Rattle.rules.specs.Lists.{also, keep, each, has, flat}
+use Rattle.rules.specs.Lists.{keep, flat}
 use Rattle.rules.specs.Problem.{Entry, Problem, items}
 use Rattle.rules.specs.Knuth.{Has}
 use Rattle.rules.specs.Order.{one-colour, has-item, agree, Placed, placed, Choice, node, place-of}
-use Rattle.rules.specs.Links.{Event, unlink, remove, mark, cost, Node, nodes-from, others, own, linked, hide, met, ring-part, touch, committed, first-or, last-or, link, up, down, top, colour-at, apply}
-use Rattle.laws.specs.Lists.{Apart, apart-nil, apart-cons, apart-map, apart-keep, and-left, and-right, and-both, or-cases, or-left, or-right, tested, keep-mem, keep-in, each-at, flat-mem, flat-append, one-true, among, strike, among-mem, mem-among}
+use Rattle.rules.specs.Links.{Event, unlink, remove, mark, cost, Node, nodes-from, others, own, linked, hide, met, ring-part, touch, committed, first-or, last-or, link, up, down, colour-at, apply}
+use Rattle.laws.specs.Lists.{Apart, apart-cons, apart-map, apart-keep, and-right, keep-mem, keep-in, flat-mem, flat-append, one-true, among, among-mem}
 use Rattle.laws.specs.Faults.{Good, plain, ranged, simple}
-use Rattle.laws.specs.Order.{entries-agree, has-item→, has-item←, eq→eqb, agree→}
-use Rattle.tables.specs.Nodes.{Of, linked-of, linked-in, choice-of, placed-one, same-option, same-item, nodes-in, nodes-at, nodes-range, others-mem, others-apart, others-other}
-use Rattle.tables.specs.Points.{committed-mem, committed-old, committed-new}
+use Rattle.laws.specs.Order.{has-item→, has-item←, eq→eqb, agree→}
+use Rattle.tables.specs.Nodes.{Of, linked-of, linked-in, placed-one, nodes-in, nodes-at, nodes-range, others-mem, others-apart, others-other}
+use Rattle.tables.specs.Points.{committed-mem, committed-old}
 use Rattle.tables.specs.Ring.{Linked}
 use Rattle.tables.specs.Shows.{Shows, view, since, since-unheld, marked, marked-held, held-marked, fold-list, fold-marked, fit-apart, touch-fit}
-use Rattle.tables.specs.Touch.{unlinks, marks, unlinks-mem, marks-mem, Other, touch-done, At, met-at, linked-apart, linked-stands, unstruck}
-use Rattle.tables.specs.Views.{View, after, Table, Named, Fits, Fit, fit-split, run-table, shade}
+use Rattle.tables.specs.Touch.{unlinks, marks, unlinks-mem, marks-mem, touch-done, At, met-at, linked-apart, linked-stands, unstruck}
+use Rattle.tables.specs.Views.{View, after, Table, Fits, Fit, fit-split, run-table, shade}
 use borrow.Author.Tests.{eq-eqb, ne-eqb}
 
 -- ---- a place in a list: after xs and before zs

@@ -1,23 +1,23 @@
 -- The nodes: where an item stands in an option, the nodes around a choice, and that a node tells its option.
 use mathlib.Core.Path.{_≡_, refl, sym, ap, _∙_, subst}
 use mathlib.Core.Logic.{_⊎_, inl, inr, _≢_}
-use mathlib.Core.Bool.{Bool, true, false, not, _&&_, _||_}
-use mathlib.Core.List.{List, [], _∷_, _++_, map, foldl, List·Memᴰ as Mem, List·Memᴰ·head as here, List·Memᴰ·tail as there}
+use mathlib.Core.Bool.{Bool, true, false}
+use mathlib.Core.List.{List, [], _∷_, _++_, List·Memᴰ as Mem, List·Memᴰ·head as here, List·Memᴰ·tail as there}
 use mathlib.Core.List.{List·Memᴰ·not-nil as not-nil, List·Memᴰ·cases-cons as cases-cons, List·Memᴰ·append-cases as append-cases, Memᴰ·append-left as in-left, Memᴰ·append-right as in-right, Memᴰ·map as map-in, Memᴰ·of-map as map-mem}
-use Prim.Native.Nat.{ℕ, zero, suc, _+_, _*_, _≤_, _<_}
+use Prim.Native.Nat.{ℕ, zero, suc, _+_, _≤_, _<_}
 use native.Mathlib.Omega.{arith}
 use native.Mathlib.Decide.{ℕ-discrete}
-use lib.Dec.{T, T-not, not-T, eqb, eqb→eq, eqb-refl}
+use lib.Dec.{T}
 use lib.ListN.{length, getD, take, drop}
 use borrow.Author.Tests.{eq-eqb, ne-eqb}
-use Rattle.rules.specs.Lists.{also, keep, each, has, flat}
+use Rattle.rules.specs.Lists.{also, keep}
 use Rattle.rules.specs.Problem.{Entry, Problem, items}
 use Rattle.rules.specs.Knuth.{Has}
-use Rattle.rules.specs.Order.{one-colour, has-item, agree, Placed, kept, spacer-after, place, placed, Choice, node, place-of, choices}
-use Rattle.rules.specs.Links.{Node, nodes-from, others, own, linked, hide}
-use Rattle.laws.specs.Lists.{Apart, apart-nil, apart-cons, and-left, and-right, and-both, or-cases, tested, keep-mem, keep-in, each-at, each-all, has-at, has-in, flat-mem, flat-in, also-mem, take-mem, drop-mem, apart-append, apart-take, apart-drop}
+use Rattle.rules.specs.Order.{has-item, agree, Placed, kept, spacer-after, place, placed, Choice, node, place-of, choices}
+use Rattle.rules.specs.Links.{Node, nodes-from, others, own, linked}
+use Rattle.laws.specs.Lists.{Apart, apart-nil, apart-cons, keep-mem, keep-in, also-mem, take-mem, drop-mem, apart-append, apart-take, apart-drop}
 use Rattle.laws.specs.Faults.{Simple}
-use Rattle.laws.specs.Order.{entries-agree, Alike, alike→, alike←, eq→eqb, neqb→ne, ne→neqb, has-item→, has-item←, place-facts, choice-facts, choice-in}
+use Rattle.laws.specs.Order.{has-item←, choice-facts}
 
 -- ---- an item's place in an option
 

@@ -1,20 +1,19 @@
 -- At a point of the search: the linked options are those that agree with all chosen, and following the links lists them.
 use mathlib.Core.Path.{_≡_, refl, sym, ap, _∙_, subst}
-use mathlib.Core.Logic.{_⊎_, inl, inr, _≢_}
-use mathlib.Core.Bool.{Bool, true, false, not, _&&_, _||_}
-use mathlib.Core.List.{List, [], _∷_, _++_, map, foldl, List·Memᴰ as Mem, List·Memᴰ·head as here, List·Memᴰ·tail as there}
-use mathlib.Core.List.{List·Memᴰ·not-nil as not-nil, List·Memᴰ·cases-cons as cases-cons, Memᴰ·map as map-in, Memᴰ·of-map as map-mem}
-use Prim.Native.Nat.{ℕ, zero, suc, _+_, _≤_, _<_}
+use mathlib.Core.Logic.{_⊎_, inl, inr}
+use mathlib.Core.Bool.{Bool, true, false, not}
+use mathlib.Core.List.{List, [], _∷_, map, List·Memᴰ as Mem, List·Memᴰ·head as here, List·Memᴰ·tail as there}
+use mathlib.Core.List.{List·Memᴰ·not-nil as not-nil, Memᴰ·map as map-in, Memᴰ·of-map as map-mem}
+use Prim.Native.Nat.{ℕ, zero, suc, _+_, _<_}
 use native.Mathlib.Omega.{arith}
 use native.Mathlib.Decide.{ℕ-discrete}
-use lib.Dec.{T, T-not, not-T, eqb, eqb→eq}
+use lib.Dec.{T, eqb}
 use lib.IntN.{ℤ, pos}
 use lib.ListN.{length, getD}
 use borrow.Author.Tests.{eq-eqb, ne-eqb}
-use Rattle.rules.specs.Lists.{also, keep, each, has, flat, run}
+use Rattle.rules.specs.Lists.{each, has, run}
 use Rattle.rules.specs.Words.{nat}
 use Rattle.rules.specs.Problem.{Entry, Problem, items}
-use Rattle.rules.specs.Knuth.{Has}
 use Rattle.rules.specs.Order.{has-item, agree, Placed, placed, Choice, node, place-of, choices, open-options, open-items}
 use Rattle.rules.specs.Links.{Node, nodes-from, others, own, linked, committed, held, fresh, table, link, left, right, top, up, down}
 use Rattle.laws.specs.Lists.{each-at, each-all, has-at, has-in, run-mem, length-run, keep-length, keep-map, keep-same, one-true, among, strike, among-mem, mem-among}
@@ -22,9 +21,8 @@ use Rattle.laws.specs.Faults.{Good, plain, simple}
 use Rattle.laws.specs.Order.{entries-agree, has-item→, has-item←, open-item, open-item-facts}
 use Rattle.tables.specs.Nodes.{Of, linked-of, nodes-in, nodes-at, others-mem, others-in, simple-one, same-item}
 use Rattle.tables.specs.Ring.{Linked, Free}
-use Rattle.tables.specs.Rings.{Rings}
-use Rattle.tables.specs.Shows.{Shows, view, since, since-unheld, removed, removed-mem, removed-in, Within, ring-items, Played, none-yet, one-more, point-shows}
-use Rattle.tables.specs.Views.{Table, ring-head}
+use Rattle.tables.specs.Shows.{Shows, since, since-unheld, removed, removed-mem, removed-in, ring-items, Played, none-yet, one-more, point-shows}
+use Rattle.tables.specs.Views.{ring-head}
 
 -- ---- following links
 

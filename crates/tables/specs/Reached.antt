@@ -2,7 +2,6 @@
 use mathlib.Core.Path.{_≡_, refl, ap}
 use mathlib.Core.Option.{some}
 use mathlib.Core.List.{List, [], _∷_, map, List·Memᴰ as Mem, List·Memᴰ·head as here, Memᴰ·append-right as in-right}
-use Prim.Native.Nat.{ℕ}
 use lib.IntN.{ℤ}
 use Rattle.rules.specs.declared.State.{State}
 use Rattle.rules.specs.Problem.{Problem}
@@ -17,7 +16,7 @@ use Rattle.tables.specs.Fresh.{fresh-shows}
 use Rattle.tables.specs.Points.{go-on}
 use Rattle.tables.specs.Shows.{Shows, Played, none-yet, point-shows}
 
-chosen-made : (s : List Level) → chosen s ≡ map (λ c. c .option) (made s)
+pub chosen-made : (s : List Level) → chosen s ≡ map (λ c. c .option) (made s)
 chosen-made [] = refl
 chosen-made (v ∷ s) = ap (λ (l : List Placed). v .tried .option ∷ l) (chosen-made s)
 

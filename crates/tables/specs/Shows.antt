@@ -1,26 +1,25 @@
 -- What a table shows where certain entries hold, and that `touch` leads from what holds to one entry more.
-use mathlib.Core.Path.{_≡_, refl, sym, ap, _∙_, subst}
+use mathlib.Core.Path.{_≡_, refl, sym, ap, _∙_}
 use mathlib.Core.Logic.{_⊎_, inl, inr, _≢_}
 use mathlib.Core.Bool.{Bool, true, false, not, _&&_, _||_}
 use mathlib.Core.List.{List, [], _∷_, _++_, map, foldl, List·Memᴰ as Mem, List·Memᴰ·head as here, List·Memᴰ·tail as there}
-use mathlib.Core.List.{List·Memᴰ·not-nil as not-nil, List·Memᴰ·append-cases as append-cases, Memᴰ·append-left as in-left, Memᴰ·append-right as in-right, Memᴰ·map as map-in, Memᴰ·of-map as map-mem}
-use Prim.Native.Nat.{ℕ, zero, suc, _+_, _≤_, _<_}
+use mathlib.Core.List.{List·Memᴰ·append-cases as append-cases, Memᴰ·append-left as in-left, Memᴰ·append-right as in-right, Memᴰ·map as map-in, Memᴰ·of-map as map-mem}
+use Prim.Native.Nat.{ℕ, zero, suc, _+_, _<_}
 use native.Mathlib.Omega.{arith}
 use native.Mathlib.Decide.{ℕ-discrete, decLt}
 use lib.Dec.{T, T-not, not-T, eqb, eqb→eq}
 use lib.IntN.{ℤ}
-use lib.ListN.{length}
-use Rattle.rules.specs.Lists.{also, keep, each, has, flat, run}
+use Rattle.rules.specs.Lists.{keep, each, has, flat, run}
 use Rattle.rules.specs.Problem.{Entry, Problem, items}
 use Rattle.rules.specs.Knuth.{Has}
 use Rattle.rules.specs.Order.{one-colour, has-item, agree, Placed, placed, Choice, node, place-of, choices}
-use Rattle.rules.specs.Links.{Event, unlink, remove, mark, Node, nodes-from, others, own, linked, touch, commit-node, commit, try, choose, committed, held, events, fresh, table, apply}
+use Rattle.rules.specs.Links.{Event, unlink, remove, mark, Node, others, own, linked, touch, commit-node, commit, try, choose, committed, held, events, fresh, table, apply}
 use Rattle.laws.specs.Lists.{Apart, apart-nil, apart-cons, apart-with, and-left, and-right, and-both, or-cases, or-left, or-right, tested, keep-mem, keep-in, each-at, each-all, run-in, keep-keep, keep-same, keep-all, one-true, has-append, among, strike, among-mem, mem-among}
 use Rattle.laws.specs.Faults.{Good, ranged, simple}
-use Rattle.laws.specs.Order.{entries-agree, eq→eqb, neqb→ne, ne→neqb, has-item→, has-item←, agree→}
-use Rattle.tables.specs.Nodes.{Of, linked-of, linked-in, choice-of, same-option, same-item, nodes-in, nodes-at, others-mem, others-apart, others-other}
+use Rattle.laws.specs.Order.{entries-agree, eq→eqb, ne→neqb, has-item→, has-item←, agree→}
+use Rattle.tables.specs.Nodes.{Of, linked-of, linked-in, choice-of, same-item, nodes-in, nodes-at, others-mem, others-apart, others-other}
 use Rattle.tables.specs.Rings.{without, without-in}
-use Rattle.tables.specs.Touch.{unlinks-of, removes-of, marks-of, unlinks, removes, marks, unlinks-mem, removes-mem, marks-mem, removes-in, marks-in, Other, Done, touch-done, done-touch, alike-colour, Stands, linked-stands, Struck, unlinked-struck, struck, unstruck, touch-apart}
+use Rattle.tables.specs.Touch.{unlinks, removes, marks, removes-mem, marks-mem, removes-in, marks-in, Other, Done, touch-done, done-touch, alike-colour, linked-stands, Struck, unlinked-struck, struck, unstruck, touch-apart}
 use Rattle.tables.specs.Undo.{undo-all, undo-append}
 use Rattle.tables.specs.Views.{View, after, Table, Fits, Fit, run-table, run-undone, foldl-append, Same, same-table}
 

@@ -1,23 +1,20 @@
 -- The table of the problem that faultless words mean is as long as refusal 9 asks for.
-use mathlib.Core.Path.{_≡_, refl, sym, ap, _∙_}
-use mathlib.Core.Bool.{Bool, true, false, _&&_}
-use mathlib.Core.Option.{Option, none, some}
+use mathlib.Core.Path.{_≡_, refl, ap, _∙_}
+use mathlib.Core.Bool.{Bool, true, false}
 use mathlib.Core.List.{List, [], _∷_, map, List·Memᴰ as Mem, List·Memᴰ·head as here, List·Memᴰ·tail as there}
-use Prim.Native.Nat.{ℕ, zero, suc, _+_, _*_, _≤_, _<_}
+use Prim.Native.Nat.{ℕ, suc, _+_}
 use native.Mathlib.Omega.{arith}
-use lib.Dec.{T, ltb, leb, leb→le}
+use lib.Dec.{T, ltb}
 use lib.IntN.{ℤ, pos, negsuc}
-use lib.Signed.{leZ}
-use lib.ListN.{length, drop}
-use Rattle.rules.specs.Lists.{also, keep, has, tally, one-if, got, or-none}
-use Rattle.rules.specs.Words.{word, below, nat}
+use lib.ListN.{length, length-set}
+use Rattle.rules.specs.Lists.{also, keep, has, tally, one-if}
+use Rattle.rules.specs.Words.{below, nat}
 use Rattle.rules.specs.Problem.{Problem, items, Pair, Cut, fault, as-entry, meant, pairs-kept, count-pairs, sizes, node-count, table-length}
-use Rattle.rules.specs.Order.{Placed, kept, spacer-after, place, placed}
-use Rattle.rules.specs.Links.{fresh}
+use Rattle.rules.specs.Order.{kept, spacer-after, place, placed, Choice}
+use Rattle.rules.specs.Links.{Event, unlink, remove, mark, fresh, apply, run-events, events, table}
 use Rattle.laws.specs.Faults.{Faultless, faultless, good-meant}
 use Rattle.tables.specs.Fresh.{fresh-shows}
 use Rattle.tables.specs.Nodes.{span, nodes}
-use Rattle.tables.specs.Views.{Table}
 
 map-length : {A B : Type 0} (f : A → B) (l : List A) → length (map f l) ≡ length l
 map-length f [] = refl
@@ -57,3 +54,23 @@ items-meant C = refl
 pub fresh-size : (C : Cut) → fault C ≡ 0 → length (fresh (meant C)) ≡ table-length (sizes C)
 unfolding sizes
 fresh-size C h = fresh-shows (meant C) (good-meant C h) .size ∙ omega (arith, nodes-meant C h, items-meant C)
+
+-- ---- an event changes no length
+
+apply-length : (n : ℕ) (t : List ℤ) (e : Event) → length (apply n t e) ≡ length t
+unfolding apply
+apply-length n t (unlink q) = simp length-set
+apply-length n t (remove i) = simp length-set
+apply-length n t (mark q c) = simp length-set
+
+run-length : (n : ℕ) (t : List ℤ) (es : List Event) → length (run-events n t es) ≡ length t
+run-length n t [] = refl
+run-length n t (e ∷ es) = run-length n (apply n t e) es ∙ apply-length n t e
+
+pub table-same : (P : Problem) (cs : List Choice) → length (table P cs) ≡ length (fresh P)
+unfolding table
+table-same P cs = run-length (items P) (fresh P) (events P cs)
+
+-- so is the table where choices are made
+pub table-size : (C : Cut) → fault C ≡ 0 → (cs : List Choice) → length (table (meant C) cs) ≡ table-length (sizes C)
+table-size C h cs = table-same (meant C) cs ∙ fresh-size C h

@@ -2,21 +2,21 @@
 use mathlib.Core.Path.{_≡_, refl, sym, ap, _∙_, subst}
 use mathlib.Core.Logic.{_⊎_, inl, inr, _≢_}
 use mathlib.Core.Bool.{Bool, true, false, not, _&&_, _||_}
-use mathlib.Core.List.{List, [], _∷_, _++_, map, List·Memᴰ as Mem, List·Memᴰ·head as here, List·Memᴰ·tail as there, List·Memᴰ·eq-of-singleton as of-singleton}
+use mathlib.Core.List.{List, [], _∷_, map, List·Memᴰ as Mem, List·Memᴰ·head as here, List·Memᴰ·eq-of-singleton as of-singleton}
 use mathlib.Core.List.{List·Memᴰ·not-nil as not-nil, List·Memᴰ·append-cases as append-cases, Memᴰ·append-left as in-left, Memᴰ·append-right as in-right, Memᴰ·map as map-in, Memᴰ·of-map as map-mem}
-use Prim.Native.Nat.{ℕ, zero, suc, _+_, _-_, _≤_, _<_}
+use Prim.Native.Nat.{ℕ, zero, suc, _+_, _-_, _<_}
 use native.Mathlib.Omega.{arith}
-use lib.Dec.{T, T-not, not-T, eqb, eqb→eq, eqb-refl}
-use lib.ListN.{length, getD}
-use Rattle.rules.specs.Lists.{also, keep, each, has, flat}
+use lib.Dec.{T, T-not, not-T, eqb, eqb→eq}
+use lib.ListN.{length}
+use Rattle.rules.specs.Lists.{keep, each, flat}
 use Rattle.rules.specs.Problem.{Entry, Problem, items}
 use Rattle.rules.specs.Knuth.{Has}
 use Rattle.rules.specs.Order.{one-colour, has-item, agree, Placed, placed, Choice, node, place-of, choices}
-use Rattle.rules.specs.Links.{Event, unlink, remove, mark, Node, nodes-from, others, own, linked, hide, met, ring-part, touch, column}
+use Rattle.rules.specs.Links.{Event, unlink, remove, mark, Node, nodes-from, others, own, linked, hide, met, ring-part, touch}
 use Rattle.laws.specs.Lists.{Apart, apart-nil, apart-cons, apart-append, apart-map, apart-keep, apart-flat, and-left, and-right, and-both, tested, keep-mem, keep-in, each-at, flat-mem, flat-in, each-not, keep-map, keep-keep, keep-same, keep-all, one-true, among, strike, among-mem, mem-among}
 use Rattle.laws.specs.Faults.{Good, simple}
-use Rattle.laws.specs.Order.{entries-agree, alike→, eq→eqb, ne→neqb, has-item→, has-item←, place-apart, choices-apart}
-use Rattle.tables.specs.Nodes.{Of, linked-of, linked-in, choice-of, same-option, same-item, blank, place-entry, nodes-at, nodes-in, others-mem, others-in, others-apart, others-other, simple-one, nodes-range, placed-one}
+use Rattle.laws.specs.Order.{entries-agree, alike→, eq→eqb, ne→neqb, has-item→, place-apart, choices-apart}
+use Rattle.tables.specs.Nodes.{Of, linked-of, linked-in, choice-of, same-option, same-item, nodes-at, nodes-in, others-mem, others-in, others-apart, others-other, simple-one, nodes-range, placed-one}
 
 -- ---- what events do, by kind
 

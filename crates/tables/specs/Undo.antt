@@ -1,14 +1,14 @@
 -- An event on the table is undone: the links of what left its list still say where it stood.
-use mathlib.Core.Path.{_≡_, refl, sym, ap, _∙_, subst}
+use mathlib.Core.Path.{_≡_, refl, sym, ap, _∙_}
 use mathlib.Core.Logic.{_≢_}
 use mathlib.Core.List.{List, [], _∷_, _++_}
-use Prim.Native.Nat.{ℕ, zero, suc, _+_, _*_, _≤_, _<_}
+use Prim.Native.Nat.{ℕ, suc, _+_, _<_}
 use native.Mathlib.Omega.{arith}
 use lib.IntN.{ℤ, pos, negsuc, predℤ, sucℤ, suc-pred}
 use lib.ListN.{length, getD, set, length-set}
 use lib.Seq.{set-set, set-comm, set-getD, getD-set-same, getD-set-other}
 use Rattle.rules.specs.Words.{nat}
-use Rattle.rules.specs.Links.{Event, unlink, remove, mark, up, down, top, colour-at, left, right, link, join, fall, apply}
+use Rattle.rules.specs.Links.{Event, unlink, remove, mark, up, down, top, colour-at, left, right, link, join, fall}
 
 -- words put back at three places
 back3 : (t : List ℤ) (A B C : ℕ) (a b c a′ b′ c′ : ℤ) → A ≢ B → A ≢ C → B ≢ C

@@ -81,15 +81,6 @@ pub fn same_at(s: &[i32], t: &[i32], a: usize) -> bool
     s[a] == t[a]
 }
 
-// Whether the words at a and b are the same.
-pub fn same_colour(t: &[i32], a: usize, b: usize) -> bool
-    requires { ⌜ a < length (now t) ⌝ }
-    requires { ⌜ b < length (now t) ⌝ }
-    ensures { λ r. ⌜ r ≡ same (word (now (t .entry)) a) (word (now (t .entry)) b) ⌝ }
-{
-    t[a] == t[b]
-}
-
 // ---- numbers
 
 // The word at a, which is not negative.
@@ -135,15 +126,6 @@ pub fn mark(t: &mut [i32], a: usize)
     ensures { λ _. ⌜ now (t .exit) ≡ set (now (t .entry)) a (negsuc 0) ⌝ }
 {
     t[a] = -1;
-}
-
-// Writes the word at b at a.
-pub fn copy_word(t: &mut [i32], a: usize, b: usize)
-    requires { ⌜ a < length (now t) ⌝ }
-    requires { ⌜ b < length (now t) ⌝ }
-    ensures { λ _. ⌜ now (t .exit) ≡ set (now (t .entry)) a (word (now (t .entry)) b) ⌝ }
-{
-    t[a] = t[b];
 }
 
 // One less at a.

@@ -1,0 +1,4 @@
+pub mod Points
+pub mod Replays
+pub mod Depth
+pub mod Begun
