@@ -1,0 +1,4 @@
+pub mod Buffers
+pub mod Fills
+pub mod Operands
+pub mod Runs
