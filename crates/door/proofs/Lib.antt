@@ -1,0 +1,5 @@
+pub mod Bytes
+pub mod Cutting
+pub mod Written
+pub mod Walking
+pub mod Outcomes
