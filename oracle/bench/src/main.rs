@@ -1,8 +1,8 @@
-//! Times of a whole search, every solution and its option numbers, with set-up apart. The contestants
-//! take turns, so that whatever else the machine does falls on all of them.
+//! Times of a whole search, every solution and its option numbers, with set-up apart; with the host door, of set-up
+//! and search together. The contestants take turns, so that whatever else the machine does falls on all of them.
 
-#[cfg(feature = "ours")]
-mod ours;
+#[cfg(feature = "door")]
+mod door;
 
 use std::hint::black_box;
 use std::time::{Duration, Instant};
@@ -63,6 +63,25 @@ macro_rules! contestants_of {
                 solutions
             }
 
+            /// Set-up and search by c.rs, without option numbers.
+            #[cfg(feature = "door")]
+            pub fn whole(problem: &Problem) -> Turn {
+                let (np, ns, options) = as_options(&problem.words);
+                timed(
+                    || (),
+                    |()| {
+                        let mut problem = $dlx::c::make_problem(np, ns, &options, OptOrder::Seq);
+                        let mut solver = Solver::new(&mut problem);
+                        let mut chooser = mrv_chooser(prefer_any(), no_tiebreak());
+                        let mut solutions = 0;
+                        while solver.next_solution(&mut chooser) {
+                            solutions += 1;
+                        }
+                        solutions
+                    },
+                )
+            }
+
             pub fn c(problem: &Problem) -> Turn {
                 let (np, ns, options) = as_options(&problem.words);
                 timed(|| $dlx::c::make_problem(np, ns, &options, OptOrder::Seq), search)
@@ -86,8 +105,16 @@ fn contestants() -> Vec<Contestant> {
         Contestant { name: "c.rs, unsafe-fast-index", takes_colours: true, turn: untested::c },
         Contestant { name: "x.rs", takes_colours: false, turn: tested::x },
         Contestant { name: "x.rs, unsafe-fast-index", takes_colours: false, turn: untested::x },
-        #[cfg(feature = "ours")]
-        Contestant { name: "ours", takes_colours: true, turn: ours::turn },
+    ]
+}
+
+/// Of set-up and search together.
+#[cfg(feature = "door")]
+fn contestants_through_the_door() -> Vec<Contestant> {
+    vec![
+        Contestant { name: "c.rs", takes_colours: true, turn: tested::whole },
+        Contestant { name: "c.rs, unsafe-fast-index", takes_colours: true, turn: untested::whole },
+        Contestant { name: "host_door", takes_colours: true, turn: door::whole },
     ]
 }
 
@@ -101,9 +128,9 @@ fn least_search(turns: &[Turn]) -> Duration {
     turns.iter().map(|turn| turn.search).min().expect("at least one round")
 }
 
-fn compete(problem: &Problem) {
+fn compete(problem: &Problem, contestants: Vec<Contestant>) {
     let entered: Vec<Contestant> =
-        contestants().into_iter().filter(|contestant| contestant.takes_colours || !problem.is_coloured).collect();
+        contestants.into_iter().filter(|contestant| contestant.takes_colours || !problem.is_coloured).collect();
     let mut turns: Vec<Vec<Turn>> = entered.iter().map(|_| Vec::new()).collect();
     for round in 0..=ROUNDS {
         for (contestant, turns) in entered.iter().zip(&mut turns) {
@@ -137,6 +164,13 @@ fn main() {
         Problem { name: "twelve queens", words: queens(12), is_coloured: false },
         Problem { name: "tiles, three by four, coloured edges", words: tiles(3, 4), is_coloured: true },
     ] {
-        compete(&problem);
+        compete(&problem, contestants());
+    }
+    #[cfg(feature = "door")]
+    for problem in [
+        Problem { name: "eight queens, set-up within the search", words: queens(8), is_coloured: false },
+        Problem { name: "tiles, two by three, set-up within the search", words: tiles(2, 3), is_coloured: true },
+    ] {
+        compete(&problem, contestants_through_the_door());
     }
 }

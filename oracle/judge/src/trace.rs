@@ -63,12 +63,6 @@ pub fn words_told(problem: &Problem, n: usize) -> Vec<i32> {
     words
 }
 
-/// How many words the table of an accepted problem has.
-pub fn fresh_table_words(words: &[i32]) -> usize {
-    let (np, ns, options) = as_options(words);
-    words_told(&c::make_problem(np, ns, &options, OptOrder::Seq), (np + ns) as usize).len()
-}
-
 /// The same words through the accessors, which is quicker.
 fn words_read(problem: &mut Problem, nodes: usize) -> Vec<i32> {
     let n = problem.items().count();
