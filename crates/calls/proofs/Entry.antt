@@ -17,7 +17,7 @@ use Rattle.rules.specs.Problem.{library-limits, cut, sizes, judged, problem-ref
 use Rattle.rules.specs.Walk.{Level}
 use Rattle.rules.specs.Calls.{counts-fit, lent-point, SetUpLent, set-up-room}
 use Rattle.problem.specs.Measured.{judged-sized, judged-refused, table-small}
-use Rattle.problem.specs.Room.{room, Accepted, accepted}
+use Rattle.problem.specs.Room.{room, served, served-all, Accepted, accepted}
 use Rattle.calls.specs.Tested.{Laid, refusal, Tested}
 use Rattle.calls.proofs.Outcomes.{set-up-refusal}
 use Rattle.calls.proofs.Pointing.{room-of, laid}
@@ -27,12 +27,12 @@ use Rattle.calls.proofs.Rooms.{room-parts}
 -- ---- set-up
 
 module _ (ws : List ℤ) (l : SetUpLent) {L : Limits} {a : ℕ} {v : Verdict} (p : L ≡ library-limits) (q : a ≡ min (length (l .path)) (length (l .profile)))
-    (e : v ≡ judged (problem-refusal L 1 (room (length (l .table)) a) ws) (sizes (cut ws))) where
+    (marks : ℕ) (e : v ≡ judged (problem-refusal (served L marks) 1 (room (length (l .table)) a) ws) (sizes (cut ws))) (h : library-limits .items ≤ marks) where
   abbrev rooms : Sizes → Bool
   rooms = room (length (l .table)) (min (length (l .path)) (length (l .profile)))
 
   judged-by : v ≡ judged (problem-refusal library-limits 1 rooms ws) (sizes (cut ws))
-  judged-by = e ∙ rw (p, q)
+  judged-by = e ∙ rw (served-all L marks p h, q)
 
   pub set-up-stops : {k : ℕ} → v ≡ Refused k → (problem-refusal library-limits 1 (set-up-room l) ws ≡ k) × (0 < k)
   set-up-stops u =

@@ -18,7 +18,7 @@ use Rattle.rules.specs.Links.{fresh}
 use Rattle.rules.specs.Calls.{counts-fit, point, lent-point, search-refusal}
 use Rattle.tables.specs.Sizes.{fresh-size}
 use Rattle.problem.specs.Measured.{Measured, judged-sized, judged-refused, table-small}
-use Rattle.problem.specs.Room.{room, Accepted, accepted}
+use Rattle.problem.specs.Room.{room, served, served-all, Accepted, accepted}
 use Rattle.calls.specs.Tested.{Laid, last-refusal, Pointed, refusal, Tested}
 use Rattle.calls.proofs.Rooms.{room-parts}
 use Rattle.calls.proofs.Outcomes.{over-part}
@@ -72,8 +72,8 @@ module _ (ws table spare path : List ℤ) (profile : List ℕ) (more : ℕ) (st 
 
   -- what the test of the problem answered
   pub accept-is : {L : Limits} {a b : ℕ} {v : Verdict} → L ≡ library-limits → a ≡ min (length table) (length spare) → b ≡ min (length path) more
-      → v ≡ judged (problem-refusal L 1 (room a b) ws) (sizes (cut ws)) → v ≡ judged problem-part (sizes (cut ws))
-  accept-is p q r e = e ∙ rw (p, q, r)
+      → (marks : ℕ) → v ≡ judged (problem-refusal (served L marks) 1 (room a b) ws) (sizes (cut ws)) → library-limits .items ≤ marks → v ≡ judged problem-part (sizes (cut ws))
+  accept-is {L} p q r marks e h = e ∙ rw (served-all L marks p h, q, r)
 
   pub refused-first : (v : Verdict) {k : ℕ} → v ≡ judged problem-part (sizes (cut ws)) → v ≡ Refused k → Tested ws table spare path profile more st v spare
   unfolding refusal

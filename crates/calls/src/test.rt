@@ -1,6 +1,6 @@
 // The refusals of a call on a search: those of the problem, then 11, then 10. Only the spare is written.
 ghost use mathlib.Core.Path.{_≡_};
-ghost use Prim.Native.Nat.{_≤_, min};
+ghost use Prim.Native.Nat.{_≤_};
 ghost use lib.Dec.{leb};
 ghost use lib.ListN.{length};
 ghost use Rattle.rules.specs.Lists.{got};
@@ -8,23 +8,17 @@ ghost use Rattle.rules.specs.Problem.{library-limits, cut, meant, table-length}
 ghost use Rattle.rules.specs.Order.{pick};
 ghost use Rattle.rules.specs.Links.{fresh};
 ghost use Rattle.rules.specs.Calls.{cap, counts-fit, point};
-ghost use Rattle.problem.specs.Room.{Roomy};
 ghost use Rattle.calls.specs.Tested.{Parts, Laid, Pointed, Tested};
 use init::init_links;
+use init::table_words;
 use problem::room::accept;
-use problem::table_words;
+use problem::room::shorter;
 use rules::CAP;
 use rules::Sizes;
 use rules::State;
 use rules::Verdict;
 use rules::library;
 use search::point::test_point;
-
-pub fn shorter(a: usize, b: usize) -> usize
-    ensures { λ r. ⌜ r ≡ min a b ⌝ }
-{
-    if a <= b { a } else { b }
-}
 
 // Whether a count is within the cap.
 fn within(c: u64) -> bool
@@ -112,7 +106,7 @@ pub fn test(
     state: State,
     marks: &mut [usize],
 ) -> Verdict
-    requires { ⌜ Roomy library-limits (length (now marks)) ⌝ }
+    requires { ⌜ library-limits .items ≤ length (now marks) ⌝ }
     ensures { λ r. ⌜ Tested (now (problem .entry)) (now (table .entry)) (now (spare .entry)) (now (path .entry)) (now (profile .entry)) more state r (now (spare .exit)) ⌝ }
 {
     let tables = shorter(table.len(), spare.len());

@@ -26,7 +26,7 @@ use Rattle.rules.specs.Calls.{moved, next-answer, next-said, end-number}
 use Rattle.rules.specs.Door.{DoorOutcome, walk-to, door-room, door-refusal, door-out, door-walked, door-as, door-call}
 use Rattle.words.specs.Read.{Natural}
 use Rattle.problem.specs.Measured.{Within, within, table-bound, judged-sized, judged-refused, first-some}
-use Rattle.problem.specs.Room.{room, Accepted, accepted}
+use Rattle.problem.specs.Room.{room, served, served-all, Accepted, accepted}
 use Rattle.search.specs.Points.{On}
 use Rattle.door.specs.Solved.{Arrived, lists-of}
 use Rattle.door.specs.Meant.{in-order-long, on-shallow}
@@ -71,9 +71,9 @@ module _ (ws : List ℤ) (out : List ℕ) where
       by (suc k) e = refl
 
   module _ {L : Limits} {a : ℕ} {v : Verdict} (p : L ≡ door-limits) (q : a ≡ lists-of (length out))
-      (e : v ≡ judged (problem-refusal L 1 (room 1676 a) ws) (sizes (cut ws))) where
+      (marks : ℕ) (e : v ≡ judged (problem-refusal (served L marks) 1 (room 1676 a) ws) (sizes (cut ws))) (h : door-limits .items ≤ marks) where
     judged-by : v ≡ judged refusal (sizes (cut ws))
-    judged-by = e ∙ rw (p, q) (ap (λ (k : ℕ). judged k (sizes (cut ws))) same-refusal)
+    judged-by = e ∙ rw (served-all L marks p h, q) (ap (λ (k : ℕ). judged k (sizes (cut ws))) same-refusal)
 
     pub stops : {k : ℕ} → v ≡ Refused k → (refusal ≡ k) × (0 < k)
     stops u = judged-refused refusal (sizes (cut ws)) (sym u ∙ judged-by)

@@ -1,21 +1,20 @@
 -- The options, appended one after the other.
 use mathlib.Core.Path.{_≡_, refl, sym, ap, _∙_}
 use mathlib.Core.Bool.{Bool, true, false}
+use mathlib.Core.Option.{none, some}
 use mathlib.Core.List.{List, [], _∷_, _++_, map, map-append, List·Memᴰ as Mem, List·Memᴰ·head as here, Memᴰ·map as map-in, Memᴰ·of-map as map-mem}
 use Prim.Native.Nat.{ℕ, zero, suc, _+_, _*_, _-_, _≤_, _<_}
 use native.Mathlib.Omega.{arith}
-use lib.IntN.{ℤ, pos}
+use lib.IntN.{ℤ}
 use lib.ListN.{length, take, drop, length-append, length-map}
 use lib.Seq.{take-all, take-nil, take-add, drop-drop}
 use Rattle.rules.specs.declared.Sizes.{Sizes}
-use Rattle.rules.specs.Words.{word}
-use Rattle.rules.specs.Problem.{Entry, Problem, items, Pair, Cut, as-entry, meant, cut, fault, pairs-kept, node-count, table-length}
+use Rattle.rules.specs.Problem.{Entry, Problem, items, Pair, Cut, as-entry, meant, cut, fault, entry-count, pairs-kept, node-count, table-length}
 use Rattle.rules.specs.Order.{kept, spacer-after, place, placed}
 use Rattle.rules.specs.Links.{top, fresh}
 use Rattle.laws.specs.Faults.{Good, faultless, good-meant}
 use Rattle.laws.specs.Lists.{take-mem, drop-mem}
-use Rattle.words.specs.Read.{Natural}
-use Rattle.problem.specs.CutLaws.{entries-at, options-at, Whole, length-entries, length-options, in-range, natural, Turn, turn}
+use Rattle.problem.specs.CutLaws.{entries-at, options-at, Whole, length-entries, length-options, count-word, never-missing, Turn, turn}
 use Rattle.problem.specs.Measured.{Measured, whole-options, cut-is}
 use Rattle.tables.specs.Build.{add-all}
 use Rattle.tables.specs.Fresh.{fresh-length}
@@ -29,7 +28,7 @@ use Rattle.init.proofs.LiveLaws.{fresh-live, live-alike}
 
 -- ---- one option
 
-module _ {P : Problem} {n np number last : ℕ} {t ws : List ℤ} {p k : ℕ} (A : Appends P n np number last t ws p k) where
+module _ {P : Problem} {n np number last : ℕ} {t ws : List ℤ} {p k : ℕ} {keep : Bool} (A : Appends P n np number last t ws p k keep) where
   abbrev x : List Entry
   x = option-at ws p k
 
@@ -39,8 +38,8 @@ module _ {P : Problem} {n np number last : ℕ} {t ws : List ℤ} {p k : ℕ} (A
   length-x : length x ≡ k
   length-x = length-map (entries-at ws p k) as-entry ∙ length-entries ws p k (A .there)
 
-  kept-x : (b : Bool) → b ≡ pairs-kept np (entries-at ws p k) → kept (P .np) x ≡ b
-  kept-x b e = ap (λ (j : ℕ). kept j x) (sym (H .primary)) ∙ kept-as np n (entries-at ws p k) (A .clean) ∙ sym e
+  kept-x : (b : Bool) → keep ≡ b → kept (P .np) x ≡ b
+  kept-x b e = ap (λ (j : ℕ). kept j x) (sym (H .primary)) ∙ kept-as np n (entries-at ws p k) (A .clean) ∙ sym (A .kept) ∙ e
 
   pub appends-live : Live n (last + 1) t
   appends-live =
@@ -48,13 +47,13 @@ module _ {P : Problem} {n np number last : ℕ} {t ws : List ℤ} {p k : ℕ} (A
       let e : nodes P ≡ last + 1 = nodes-last P ∙ let s = H .spacer in omega arith in
       rw (← e, i) (live-alike (H .begins) (fresh-live P))
 
-  after : (b : Bool) → b ≡ pairs-kept np (entries-at ws p k) → last-spacer (longer P x) ≡ spacer-after b last x
+  after : (b : Bool) → keep ≡ b → last-spacer (longer P x) ≡ spacer-after b last x
   after b e = last-longer P x b (kept-x b e) ∙ rw (H .spacer)
 
   one-more : number + 1 ≡ length (P .options ++ x ∷ [])
   one-more = let m = H .numbered in sym (length-append (P .options) (x ∷ []) ∙ omega arith)
 
-  module _ (e : true ≡ pairs-kept np (entries-at ws p k)) where
+  module _ (e : keep ≡ true) where
     pub nodes-kept : nodes (longer P x) ≡ last + k + 2
     nodes-kept = nodes-last (longer P x) ∙ let a = after true e in let l = length-x in omega arith
 
@@ -73,7 +72,7 @@ module _ {P : Problem} {n np number last : ℕ} {t ws : List ℤ} {p k : ℕ} (A
           begins = rw w (appended P x (A .good) (kept-x true e) t (H .begins) (rw (← i) (A .room)));
         }
 
-  pub append-skipped : false ≡ pairs-kept np (entries-at ws p k) → Holds (longer P x) n np (number + 1) last t
+  pub append-skipped : keep ≡ false → Holds (longer P x) n np (number + 1) last t
   append-skipped e =
       let a = after false e in
       let s : nodes (longer P x) ≡ nodes P = nodes-last (longer P x) ∙ ap suc (a ∙ H .spacer) ∙ sym (nodes-last P) in
@@ -176,13 +175,13 @@ module _ {ws : List ℤ} {s : Sizes} {m : ℕ} {t₀ : List ℤ} (E : Enters ws 
     left : number < m → 0 < s .options - number
     left h = let l = E .most in omega arith
 
-    -- the option's entry count can be read
-    pub entering-there : number < m → (at < length ws) × Natural ws at
-    entering-there h = (in-range ws at (s .options - number) (left h) (I .whole), natural ws at (s .options - number) (left h) (I .whole))
+    -- the option is there
+    pub entering-there : number < m → none ≡ entry-count (drop at ws) → ⊥
+    entering-there h = never-missing ws at (s .options - number) (left h) (I .whole)
 
-    module _ (h : number < m) (k : ℕ) (e : word ws at ≡ pos k) where
+    module _ (h : number < m) (k : ℕ) (e : some k ≡ entry-count (drop at ws)) where
       now-at : Turn ws at (s .options - number) k
-      now-at = turn ws at (s .options - number) (left h) (I .whole) k e
+      now-at = turn ws at (s .options - number) (left h) (I .whole) k (count-word ws at k (sym e))
 
       abbrev o : List Pair
       o = entries-at ws (at + 1) k
@@ -196,13 +195,14 @@ module _ {ws : List ℤ} {s : Sizes} {m : ℕ} {t₀ : List ℤ} (E : Enters ws 
           (sym (ap (map as-entries) (next-taken number (options-at ws 3 (s .options)) next)
           ∙ map-append as-entries (take number (options-at ws 3 (s .options))) (o ∷ [])))
 
-      pub entering-appends : Appends (first ws s number) (s .np + s .ns) (s .np) number last t ws (at + 1) k
-      entering-appends =
+      pub entering-appends : (keep : Bool) → keep ≡ pairs-kept (s .np) o → Appends (first ws s number) (s .np + s .ns) (s .np) number last t ws (at + 1) k keep
+      entering-appends keep b =
           let n = nodes-more ws s (number + 1) m (omega arith) in
           let e : nodes (longer (first ws s number) (as-entries o)) ≡ nodes (first ws s (number + 1)) = ap nodes more in
           record {
             holds = I .holds;
             there = now-at .room;
+            kept = b;
             clean = clean-option (E .measured) (E .sound) (drop-mem number (options-at ws 3 (s .options)) (rw next (here refl)));
             good = rw more (good-first (E .measured) (E .sound) (number + 1));
             room = let l = I .size in omega arith;

@@ -1,4 +1,5 @@
 -- What the functions of set-up ask and promise: tables that begin with the fresh table of some of the options.
+use mathlib.Core.Bool.{Bool}
 use mathlib.Core.List.{List, [], _∷_, _++_, map, List·Memᴰ as Mem}
 use mathlib.Core.Path.{_≡_}
 use Prim.Native.Nat.{ℕ, _+_, _*_, _≤_, _<_}
@@ -8,7 +9,7 @@ use lib.ListN.{length, set, take}
 use lib.Signed.{nonNeg}
 use Rattle.rules.specs.declared.Sizes.{Sizes}
 use Rattle.rules.specs.Words.{word, below}
-use Rattle.rules.specs.Problem.{Entry, Problem, items, Pair, as-entry, cut, fault}
+use Rattle.rules.specs.Problem.{Entry, Problem, items, Pair, as-entry, pairs-kept, cut, fault}
 use Rattle.rules.specs.Order.{placed}
 use Rattle.rules.specs.Links.{top, up, down, colour-at, fresh}
 use Rattle.laws.specs.Faults.{Good}
@@ -81,18 +82,19 @@ pub record Holds (P : Problem) (n np number last : ℕ) (t : List ℤ) : Type 0 
   pub spacer : last ≡ last-spacer P
   pub begins : Alike (top (items P) (nodes P)) t (fresh P)
 
--- the k entries at p can be appended
-pub record Appends (P : Problem) (n np number last : ℕ) (t ws : List ℤ) (p k : ℕ) : Type 0 where
+-- the k entries at p can be appended; `keep` tells whether they are a kept option
+pub record Appends (P : Problem) (n np number last : ℕ) (t ws : List ℤ) (p k : ℕ) (keep : Bool) : Type 0 where
   pub holds : Holds P n np number last t
   pub there : p + 2 * k ≤ length ws
+  pub kept : keep ≡ pairs-kept np (entries-at ws p k)
   pub clean : AllClean n (entries-at ws p k)
   pub good : Good (longer P (option-at ws p k))
   pub room : top n (nodes (longer P (option-at ws p k))) ≤ length t
   pub small : nodes (longer P (option-at ws p k)) ≤ 2147483648
   pub few : number < 2147483648
 
-abbrev pub CanAppend : ℕ → ℕ → ℕ → ℕ → List ℤ → List ℤ → ℕ → ℕ → Type 0
-CanAppend n np number last t ws p k = (P : Problem) × Appends P n np number last t ws p k
+abbrev pub CanAppend : ℕ → ℕ → ℕ → List ℤ → List ℤ → ℕ → ℕ → Bool → Type 0
+CanAppend n number last t ws p k keep = (P : Problem) × (np : ℕ) × Appends P n np number last t ws p k keep
 
 -- ---- the first options
 

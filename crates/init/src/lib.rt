@@ -11,6 +11,15 @@ ghost use Rattle.rules.specs.Links.{fresh};
 ghost use Rattle.problem.specs.Measured.{Measured};
 use rules::Sizes;
 
+// The words that a table of these sizes takes.
+pub fn table_words(s: Sizes) -> usize
+    requires { ⌜ table-length s < 2147483648 ⌝ }
+    ensures { λ r. ⌜ r ≡ table-length s ⌝ }
+{
+    let n = s.np + s.ns + 2;
+    2 * n + 4 * (n + s.entries + s.kept)
+}
+
 // Writes the table of the problem whose sizes are s.
 pub fn init_links(t: &mut [i32], problem: &[i32], s: Sizes)
     requires { ⌜ Measured (now problem) s ⌝ }

@@ -2,7 +2,7 @@
 // spacer. Node q's words stand from 2 (n + 2) + 4 q on: top or length, up, down, colour. Every word of a new node is written: it does not
 // matter what the table held there.
 ghost use mathlib.Core.Path.{_≡_};
-ghost use Prim.Native.Nat.{_+_, _*_, _≤_, _<_};
+ghost use Prim.Native.Nat.{ℕ, _+_, _*_, _≤_, _<_};
 ghost use lib.IntN.{pos};
 ghost use lib.ListN.{length};
 ghost use Rattle.rules.specs.Problem.{Problem};
@@ -11,7 +11,8 @@ ghost use Rattle.problem.specs.CutLaws.{entries-at};
 ghost use Rattle.tables.specs.Build.{four, add, add-all};
 ghost use Rattle.tables.specs.Nodes.{nodes};
 ghost use Rattle.init.specs.SetUp.{Alike, bare, longer, option-at, first, AllClean, Live, end-option, Holds, Appends, CanAppend, Enters};
-use problem::keeps;
+use problem::Entries;
+use problem::read_option;
 use rules::Sizes;
 use words::link_at;
 use words::put_link;
@@ -100,17 +101,17 @@ fn end_option(t: &mut [i32], n: usize, number: usize, p: usize, k: usize)
 pub fn append_option(
     t: &mut [i32],
     n: usize,
-    np: usize,
     number: usize,
     last: usize,
     ws: &[i32],
     p: usize,
     k: usize,
+    keep: bool,
 ) -> usize
-    requires { ⌜ CanAppend n np number last (now t) (now ws) p k ⌝ }
-    ensures { λ r. ⌜ ((P : Problem) → Appends P n np number last (now (t .entry)) (now (ws .entry)) p k → Holds (longer P (option-at (now (ws .entry)) p k)) n np (number + 1) r (now (t .exit))) ⌝ }
+    requires { ⌜ CanAppend n number last (now t) (now ws) p k keep ⌝ }
+    ensures { λ r. ⌜ ((P : Problem) (np : ℕ) → Appends P n np number last (now (t .entry)) (now (ws .entry)) p k keep → Holds (longer P (option-at (now (ws .entry)) p k)) n np (number + 1) r (now (t .exit))) ⌝ }
 {
-    if !keeps(ws, p, k, np) {
+    if !keep {
         return last;
     }
     add_entries(t, n, last + 1, ws, p, k);
@@ -130,8 +131,10 @@ fn enter_options(t: &mut [i32], problem: &[i32], s: Sizes, m: usize)
     let mut last = n + 1;
     let mut number: usize = 0;
     while number < m {
-        let k = link_at(problem, at);
-        last = append_option(t, n, s.np, number, last, problem, at + 1, k);
+        let Entries::Of(k, keep) = read_option(problem, at, s.np) else {
+            return;
+        };
+        last = append_option(t, n, number, last, problem, at + 1, k, keep);
         at += 1 + 2 * k;
         number += 1;
     }

@@ -12,7 +12,7 @@ use lib.ListN.{length, getD, drop, length-drop, drop-of-length-le}
 use lib.Seq.{drop-cons, drop-drop, getD-drop}
 use lib.Signed.{nonNeg}
 use Rattle.rules.specs.Lists.{when, got, or-none}
-use Rattle.rules.specs.Problem.{Pair, entry-count, pairs, with-option, then-cut, cut-options}
+use Rattle.rules.specs.Problem.{Pair, entry-count, pairs, with-option, then-cut, cut-options, count-pairs}
 use Rattle.rules.specs.Words.{word}
 
 -- the entry at p
@@ -123,7 +123,7 @@ module _ (ws : List ℤ) (at k : ℕ) (e : entry-count (drop at ws) ≡ some k) 
   pub count-room : at + 1 + 2 * k ≤ length ws
   count-room = let h = counted (drop at ws) k e .1 in omega (arith, length-drop at ws)
 
-  count-word : word ws at ≡ pos k
+  pub count-word : word ws at ≡ pos k
   count-word =
       let u : at + 0 ≡ at = omega arith in
       sym (getD-drop at ws 0 (pos 0) ∙ ap (λ (n : ℕ). word ws n) u) ∙ counted (drop at ws) k e .0
@@ -185,6 +185,26 @@ length-cut (suc m) l g = by (entry-count l) (λ r. length-cut m r) g
 pub length-options : (ws : List ℤ) (at m : ℕ) → Whole ws at m → length (options-at ws at m) ≡ m
 length-options ws at m g = length-cut m (drop at ws) g
 
+-- an entry takes two words
+few-with : (o : List Pair) (X : Option (List (List Pair))) (n : ℕ) → 2 * (length o + count-pairs (or-none X)) ≤ n → 2 * count-pairs (or-none (with-option o X)) ≤ n
+unfolding count-pairs
+few-with o none n h = omega arith
+few-with o (some os) n h = h
+
+pub few-pairs : (m : ℕ) (l : List ℤ) → 2 * count-pairs (or-none (cut-options m l)) ≤ length l
+unfolding cut-options count-pairs
+few-pairs zero [] = omega arith
+few-pairs zero (w ∷ l) = omega arith
+few-pairs (suc m) l = by (entry-count l) refl (λ r. few-pairs m r)
+  where
+    by : (c : Option ℕ) → entry-count l ≡ c → ((r : List ℤ) → 2 * count-pairs (or-none (cut-options m r)) ≤ length r)
+        → 2 * count-pairs (or-none (then-cut c l (λ r. cut-options m r))) ≤ length l
+    by none e later = omega arith
+    by (some k) e later =
+        let h = counted l k e .1 in
+        few-with (pairs k (drop 1 l)) (cut-options m (drop (1 + 2 * k) l)) (length l)
+        (omega (arith, length-pairs k (drop 1 l) (omega (arith, length-drop 1 l)), later (drop (1 + 2 * k) l), length-drop (1 + 2 * k) l))
+
 -- ---- a turn of a loop over options that are known to be there
 
 -- an option of k entries stands at `at`, and m - 1 options after it
@@ -208,6 +228,9 @@ module _ (ws : List ℤ) (at m : ℕ) (z : 0 < m) (g : Whole ws at m) where
       by : (o : Option ℕ) → entry-count (drop at ws) ≡ o → (k : ℕ) × (entry-count (drop at ws) ≡ some k)
       by none e = absurd (rw (cut-lost ws at m (sym e) z) at g)
       by (some k) e = (k, e)
+
+  pub never-missing : none ≡ entry-count (drop at ws) → ⊥
+  never-missing e = rw (cut-lost ws at m e z) at g
 
   -- the word at `at` can be read, and is a number
   pub in-range : at < length ws

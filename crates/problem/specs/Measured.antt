@@ -2,11 +2,11 @@
 use mathlib.Core.Bool.{Bool, true, false, _&&_}
 use mathlib.Core.List.{List, [], _∷_}
 use mathlib.Core.Path.{_≡_, refl, ap, _∙_}
-use Prim.Native.Nat.{ℕ, zero, suc, _+_, _*_, _≤_, _<_}
+use Prim.Native.Nat.{ℕ, zero, suc, _+_, _*_, _≤_, _<_, _^_}
 use native.Mathlib.Omega.{arith}
 use lib.Dec.{T, leb, leb→le}
 use lib.IntN.{ℤ, pos, negsuc}
-use lib.ListN.{length}
+use lib.ListN.{length, drop, length-drop}
 use lib.Signed.{leZ, nonNeg}
 use mir.Facts.{and-yes}
 use Rattle.rules.specs.Lists.{also, keep, tally, one-if, got, or-none}
@@ -15,7 +15,7 @@ use Rattle.rules.specs.Words.{word, nat}
 use Rattle.rules.specs.declared.Limits.{Limits}
 use Rattle.rules.specs.declared.Sizes.{Sizes}
 use Rattle.rules.specs.declared.Verdict.the-variants.{Refused, Sized}
-use Rattle.problem.specs.CutLaws.{cannot, Whole, options-at, length-options}
+use Rattle.problem.specs.CutLaws.{cannot, Whole, options-at, length-options, few-pairs}
 use Rattle.laws.specs.Faults.{need-holds}
 
 -- the words are cut right, and s are their sizes
@@ -88,6 +88,12 @@ entries-few np (o ∷ os) = by (pairs-kept np o) (entries-few np os)
     by true h = omega arith
     by false h = omega arith
 
+-- an entry takes two words
+pub entries-in : (ws : List ℤ) (s : Sizes) → Measured ws s → 2 * s .entries ≤ length ws
+entries-in ws s M =
+    let os : List (List Pair) = options-at ws 3 (s .options) in
+    omega (arith, entries-is ws s M, entries-few (s .np) os, few-pairs (s .options) (drop 3 ws), length-drop 3 ws)
+
 -- ---- from the verdict
 
 pub judged-sized : (k : ℕ) {s s′ : Sizes} → Sized s ≡ judged k s′ → (k ≡ 0) × (s ≡ s′)
@@ -148,6 +154,11 @@ module _ (L : Limits) (least : ℕ) (ws : List ℤ) where
 
     pub within : Within L least s
     within = rw (passed s e .1) (cut-within (passed s e .0) .1)
+
+    -- sizes that were read from words can be added up
+    pub countable : s .np < 2147483648 → s .ns < 2147483648 → s .options < 2147483648 → length ws < 2 ^ 64
+        → (Sized s ≡ verdict L least ws) × ((z : Sizes) → Sized s ≡ Sized z → node-count z < 2 ^ 64)
+    countable a b c l = (e, λ z u. let v = judged-sized 0 u .1 in rw (← v) (omega (arith, within .few-kept, entries-in ws s measured)))
 
     pub sized-refusal : (room : Sizes → Bool) → problem-refusal L least room ws ≡ need (room s) 9 (fault (cut ws))
     unfolding problem-refusal

@@ -1,8 +1,9 @@
--- 9's test by two numbers, what the limits must leave to work in, and what is known of words that are not refused. Assumes nothing.
+-- 9's test by two numbers, the limits that the marks leave, and what is known of words that are not refused. Assumes nothing.
 use mathlib.Core.Path.{_≡_, sym, ap, _∙_}
 use mathlib.Core.Bool.{Bool, _&&_}
 use mathlib.Core.List.{List}
-use Prim.Native.Nat.{ℕ, _+_, _*_, _≤_, _<_}
+use Prim.Native.Nat.{ℕ, _≤_, min}
+use native.Mathlib.Nat.{min-eq-left}
 use lib.Dec.{T, leb}
 use lib.IntN.{ℤ}
 use Rattle.rules.specs.declared.Limits.{Limits}
@@ -16,10 +17,12 @@ use Rattle.problem.specs.Measured.{Measured, measured, Within, within}
 abbrev pub room : ℕ → ℕ → Sizes → Bool
 room tables lists s = leb (table-length s) tables && leb (s .np) lists
 
--- there is a mark for each item, and a word can number each place of a table
-pub record Roomy (L : Limits) (marks : ℕ) : Type 0 where
-  pub marked : L .items ≤ marks
-  pub small : 2 * (L .items + 2) + 4 * (L .items + 2 + L .entries + L .options) < 2147483648
+-- the limits, where no more than this many items can be marked
+abbrev pub served : Limits → ℕ → Limits
+served L marks = record { items = min (L .items) marks; options = L .options; entries = L .entries }
+
+pub served-all : (L : Limits) {K : Limits} (marks : ℕ) → L ≡ K → K .items ≤ marks → served L marks ≡ K
+served-all L {K} marks e h = ap (λ (M : Limits). served M marks) e ∙ ap (λ (i : ℕ). record { items = i; options = K .options; entries = K .entries }) (min-eq-left h)
 
 -- ---- words that are not refused
 

@@ -1,14 +1,16 @@
-// The test of the problem words, for any limits: refusals 1 to 4 and the sizes here, refusals 5 to 8 in `fault`.
-pub mod fault;
+// The test of the problem words, for any limits: refusals 1 to 4 and the sizes here, refusals 5 to 8 in `fault`, all of 1 to 9 in `room`.
+mod fault;
 pub mod room;
 
 ghost use mathlib.Core.Path.{_≡_};
 ghost use Prim.Native.Nat.{_+_, _*_, _≤_, _<_, _^_};
 ghost use lib.ListN.{length, drop};
-ghost use Rattle.rules.specs.Problem.{entry-count, pairs-kept, cut-options, verdict, table-length};
+ghost use Rattle.rules.specs.declared.Sizes.{Sizes};
+ghost use Rattle.rules.specs.declared.Verdict.the-variants.{Sized};
+ghost use Rattle.rules.specs.Problem.{entry-count, pairs-kept, cut-options, verdict, node-count};
 ghost use Rattle.problem.specs.CutLaws.{entries-at};
 ghost use Rattle.problem.specs.Heads.{Heads};
-ghost use Rattle.problem.specs.Sums.{as-option, add-option, total, no-sums};
+ghost use Rattle.problem.specs.Sums.{as-option, met, add-option, total, no-sums};
 use rules::Limits;
 use rules::Sizes;
 use rules::Verdict;
@@ -20,6 +22,12 @@ use words::link_at;
 // What an option's words begin with.
 enum Count {
     Of(usize),
+    Missing,
+}
+
+// An option's entry count, and whether the option is kept.
+pub enum Entries {
+    Of(usize, bool),
     Missing,
 }
 
@@ -54,7 +62,7 @@ fn count_at(ws: &[i32], at: usize) -> Count
 }
 
 // Whether one of the k entries at p has a primary item.
-pub fn keeps(ws: &[i32], p: usize, k: usize, np: usize) -> bool
+fn keeps(ws: &[i32], p: usize, k: usize, np: usize) -> bool
     requires { ⌜ p + 2 * k ≤ length (now ws) ⌝ }
     ensures { λ r. ⌜ r ≡ pairs-kept np (entries-at (now (ws .entry)) p k) ⌝ }
 {
@@ -68,6 +76,17 @@ pub fn keeps(ws: &[i32], p: usize, k: usize, np: usize) -> bool
         left -= 1;
     }
     false
+}
+
+// The cursor over the options: what the option that begins at `at` has, if the words have room for it. Its entries follow its count, and the next
+// option follows them.
+pub fn read_option(ws: &[i32], at: usize, np: usize) -> Entries
+    ensures { λ r. ⌜ r ≡ met (entry-count (drop at (now (ws .entry)))) (λ k. pairs-kept np (entries-at (now (ws .entry)) (at + 1) k)) ⌝ }
+{
+    let Count::Of(k) = count_at(ws, at) else {
+        return Entries::Missing;
+    };
+    Entries::Of(k, keeps(ws, at + 1, k, np))
 }
 
 // The sums with one option of k entries more.
@@ -101,10 +120,10 @@ fn count_options(ws: &[i32], np: usize, m: usize) -> Counted
         entries: 0,
     };
     while 0 < ahead {
-        let Count::Of(k) = count_at(ws, at) else {
+        let Entries::Of(k, keep) = read_option(ws, at, np) else {
             return Counted::Wrong;
         };
-        s = add_option(s, k, keeps(ws, at + 1, k, np));
+        s = add_option(s, k, keep);
         at += 1 + 2 * k;
         ahead -= 1;
     }
@@ -139,9 +158,11 @@ fn heads(ws: &[i32], limits: Limits, least: usize) -> u32
     0
 }
 
-// Refusals 1 to 4 in document 01's order of test, or the sizes, where `least` is the least number of options.
+// Refusals 1 to 4 in document 01's order of test, or the sizes, where `least` is the least number of options. The nodes of a table of these sizes
+// can be counted.
 pub fn check(problem: &[i32], limits: Limits, least: usize) -> Verdict
     ensures { λ r. ⌜ r ≡ verdict limits least (now (problem .entry)) ⌝ }
+    ensures { λ r. ⌜ ((s : Sizes) → r ≡ Sized s → node-count s < 2 ^ 64) ⌝ }
 {
     let refusal = heads(problem, limits, least);
     if refusal != 0 {
@@ -163,13 +184,4 @@ pub fn check(problem: &[i32], limits: Limits, least: usize) -> Verdict
         kept: s.kept,
         entries: s.entries,
     })
-}
-
-// The words that a table of these sizes takes.
-pub fn table_words(s: Sizes) -> usize
-    requires { ⌜ table-length s < 2147483648 ⌝ }
-    ensures { λ r. ⌜ r ≡ table-length s ⌝ }
-{
-    let n = s.np + s.ns + 2;
-    2 * n + 4 * (n + s.entries + s.kept)
 }

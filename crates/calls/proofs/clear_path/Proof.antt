@@ -17,31 +17,24 @@ Inv-loop path₀ np k₀ path k = Filled (pos 0) path₀ path k × (k ≤ np)
 abbrev μ-loop : tie.MeasureT-loop
 μ-loop path₀ np k₀ path k = np - k
 
--- src/lib.rt:58:5
 loop-holds : tie.Need-loop-holds Inv-loop μ-loop
 loop-holds c = (fill-none (pos 0) _, omega arith)
 
--- src/lib.rt:59:9
 put-link-requires : tie.Need-put-link-requires Inv-loop μ-loop
 put-link-requires c κs = (omega (arith, filled-long (pos 0) (c .before .before .loop .inv .0), c .before .before .before .pre), omega arith)
 
--- src/lib.rt:60:9
 add-k : tie.Need-add-k Inv-loop μ-loop
 add-k c = omega arith
 
--- src/lib.rt:58:5
 loop-less : tie.Need-loop-less Inv-loop μ-loop
 loop-less c = omega arith
 
--- src/lib.rt:58:5
 loop-again : tie.Need-loop-again Inv-loop μ-loop
 loop-again c = (fill-next (pos 0) _ (c .before .before .before .before .loop .inv .0) (let h : c .before .before .before .before .loop .k < length (c .before .before .before .before .before .args .path .now) = omega (arith, c .before .before .before .before .before .pre) in h) (c .before .put-link .ensures), omega arith)
 
--- src/lib.rt:53:1
 same-length : tie.Need-same-length Inv-loop μ-loop
 same-length c = filled-long (pos 0) (c .before .loop .inv .0)
 
--- src/lib.rt:53:1
 returns : tie.Need-returns Inv-loop μ-loop
 returns c = let e : c .before .loop .k ≡ c .before .before .args .np = omega arith in fill-end (pos 0) (c .before .before .args .np) (c .before .loop .k) (c .before .loop .inv .0) e
 

@@ -16,35 +16,27 @@ Inv-loop profile₀ np k₀ profile k = Filled 0 profile₀ profile k × (k ≤ 
 abbrev μ-loop : tie.MeasureT-loop
 μ-loop profile₀ np k₀ profile k = np - k
 
--- src/lib.rt:69:5
 loop-holds : tie.Need-loop-holds Inv-loop μ-loop
 loop-holds c = (fill-none 0 _, omega arith)
 
--- src/lib.rt:70:9
 mul-profile : tie.Need-mul-profile Inv-loop μ-loop
 mul-profile c = omega (arith, filled-long 0 (c .before .loop .inv .0), c .before .before .pre)
 
--- src/lib.rt:70:9
 slice-write-profile : tie.Need-slice-write-profile Inv-loop μ-loop
 slice-write-profile c = omega (arith, filled-long 0 (c .before .loop .inv .0), c .before .before .pre)
 
--- src/lib.rt:71:9
 add-k : tie.Need-add-k Inv-loop μ-loop
 add-k c = omega arith
 
--- src/lib.rt:69:5
 loop-less : tie.Need-loop-less Inv-loop μ-loop
 loop-less c = omega arith
 
--- src/lib.rt:69:5
 loop-again : tie.Need-loop-again Inv-loop μ-loop
 loop-again c = (fill-next 0 _ (c .before .loop .inv .0) (let h : c .before .loop .k < length (c .before .before .args .profile .now) = omega (arith, c .before .before .pre) in h) refl, omega arith)
 
--- src/lib.rt:64:1
 same-length : tie.Need-same-length Inv-loop μ-loop
 same-length c = filled-long 0 (c .before .loop .inv .0)
 
--- src/lib.rt:64:1
 returns : tie.Need-returns Inv-loop μ-loop
 returns c = let e : c .before .loop .k ≡ c .before .before .args .np = omega arith in fill-end 0 (c .before .before .args .np) (c .before .loop .k) (c .before .loop .inv .0) e
 

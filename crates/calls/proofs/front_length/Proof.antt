@@ -7,35 +7,27 @@ use Rattle.calls.proofs.front_length.Reads as reads
 use Rattle.calls.proofs.front_length.Lts as lts
 use Rattle.calls.proofs.wide.Reads as wide-reads
 
--- src/lib.rt:175:25
 enum-told : tie.Need-enum-told
 enum-told c = search needs
 
--- src/lib.rt:176:24
 enum-told-2 : tie.Need-enum-told-2
 enum-told-2 c = search needs
 
--- src/lib.rt:178:17
 enum-told-3 : tie.Need-enum-told-3
 enum-told-3 c = search needs
 
--- src/lib.rt:178:17
 wide-requires : tie.Need-wide-requires
 wide-requires c κs = search needs
 
--- src/lib.rt:170:1
 returns : tie.Need-returns
 returns c = search needs
 
--- src/lib.rt:170:1
 returns-2 : tie.Need-returns-2
 returns-2 c = search needs
 
--- src/lib.rt:170:1
 returns-3 : tie.Need-returns-3
 returns-3 c = (simp (c .before .before .enum-told3 .given .1, ← c .before .wide .ensures, le-leb _ _ (c .if1 .taken)), search needs)
 
--- src/lib.rt:170:1
 returns-4 : tie.Need-returns-4
 returns-4 c = (simp (c .before .before .enum-told3 .given .1, ← c .before .wide .ensures, lt-leb _ _ (c .if1 .left)), search needs)
 

@@ -1,8 +1,7 @@
-use mathlib.Core.Path.{_≡_, sym, ap, _∙_}
-use mathlib.Core.List.{List, []}
-use Prim.Native.Nat.{ℕ, _≤_}
+use mathlib.Core.Path.{sym, ap, _∙_}
+use mathlib.Core.List.{[]}
+use Prim.Native.Nat.{ℕ}
 use native.Mathlib.Omega.{arith}
-use lib.ListN.{length, replicate}
 use Rattle.rules.specs.Lists.{over}
 use Rattle.rules.specs.Calls.{path-words}
 use Rattle.calls.proofs.Entry.{stops, goes}
@@ -11,76 +10,55 @@ use Rattle.calls.proofs.Points.{np-meant}
 use borrow.Author.Needs.{needs}
 use Rattle.calls.proofs.give_up.Statement.{statement}
 use Rattle.calls.proofs.give_up.Tie as tie
-use Rattle.calls.proofs.give_up.Reads as reads
-use Rattle.calls.proofs.give_up.Lts as lts
-use Rattle.calls.proofs.lay_out.Reads as lay-out-reads
-use Rattle.calls.proofs.ready.Reads as ready-reads
-use Rattle.calls.proofs.test.test.Reads as test-reads
 
--- src/lib.rt:182:45
 array-share-prefix-none : tie.Need-array-share-prefix-none
 array-share-prefix-none c = search needs
 
--- src/lib.rt:182:45
 slice-aggregate-test : tie.Need-slice-aggregate-test
 slice-aggregate-test c = search needs
 
--- src/lib.rt:182:76
 slice-aggregate-test-2 : tie.Need-slice-aggregate-test-2
 slice-aggregate-test-2 c = search needs
 
--- src/lib.rt:182:11
 test-requires : tie.Need-test-requires
-test-requires c κs = record { marked = omega arith; small = omega arith }
+test-requires c κs = omega arith
 
--- src/lib.rt:183:26
 enum-known-k : tie.Need-enum-known-k
 enum-known-k c = search needs
 
--- src/lib.rt:184:24
 enum-known-s : tie.Need-enum-known-s
 enum-known-s c = search needs
 
--- src/lib.rt:185:13
 lay-out-requires : tie.Need-lay-out-requires
 lay-out-requires c κs = goes (c .before .before .before .before .before .before .before .test .ensures) (c .before .before .before .s .given .1) .is-laid
 
--- src/lib.rt:186:35
 ready-requires : tie.Need-ready-requires
 ready-requires c κs = search needs
 
--- src/lib.rt:171:1
 same-length : tie.Need-same-length
 same-length c = search needs
 
--- src/lib.rt:171:1
 same-length-2 : tie.Need-same-length-2
 same-length-2 c = search needs
 
--- src/lib.rt:171:1
 same-length-3 : tie.Need-same-length-3
 same-length-3 c = search needs
 
--- src/lib.rt:171:1
 returns : tie.Need-returns
 returns c = let a = c .before .before .before .before .before .before .before .before .before .before .before .args in
     let X = c .before .before .before .before .before .test .ensures in
     let (x, y) = stops X (c .before .k .given .1) in
     give-up-refused (a .problem .now) (record { table = a .table .now; spare = a .spare .now; path = a .path .now }) (a .state) _ _ x y (X .spare-is)
 
--- src/lib.rt:171:1
 same-length-4 : tie.Need-same-length-4
 same-length-4 c = search needs
 
--- src/lib.rt:171:1
 same-length-5 : tie.Need-same-length-5
 same-length-5 c = search needs
 
--- src/lib.rt:171:1
 same-length-6 : tie.Need-same-length-6
 same-length-6 c = search needs
 
--- src/lib.rt:171:1
 returns-2 : tie.Need-returns-2
 returns-2 c = let a = c .before .before .before .before .before .before .before .before .before .before .before .before .before .before .before .before .before .args in
     let X = c .before .before .before .before .before .before .before .before .before .before .before .test .ensures in

@@ -1,4 +1,4 @@
-use mathlib.Core.Path.{_≡_, refl, sym, ap, _∙_}
+use mathlib.Core.Path.{refl, sym, ap, _∙_}
 use Prim.Native.Nat.{ℕ}
 use native.Mathlib.Omega.{arith}
 use lib.ListN.{take}
@@ -13,83 +13,61 @@ use Rattle.calls.proofs.Points.{np-meant, begun, fronts}
 use borrow.Author.Needs.{needs}
 use Rattle.calls.proofs.next.Statement.{statement}
 use Rattle.calls.proofs.next.Tie as tie
-use Rattle.calls.proofs.next.Reads as reads
-use Rattle.calls.proofs.next.Lts as lts
-use Rattle.calls.proofs.run_fronts.Reads as run-fronts-reads
-use Rattle.calls.proofs.test.shorter.Reads as shorter-reads
-use Rattle.calls.proofs.test.test.Reads as test-reads
 
--- src/lib.rt:163:9
 shorter-requires : tie.Need-shorter-requires
 shorter-requires c κs = search needs
 
--- src/lib.rt:164:67
 slice-aggregate-test : tie.Need-slice-aggregate-test
 slice-aggregate-test c = search needs
 
--- src/lib.rt:164:11
 test-requires : tie.Need-test-requires
-test-requires c κs = record { marked = omega arith; small = omega arith }
+test-requires c κs = omega arith
 
--- src/lib.rt:165:26
 enum-known-k : tie.Need-enum-known-k
 enum-known-k c = search needs
 
--- src/lib.rt:166:24
 enum-known-s : tie.Need-enum-known-s
 enum-known-s c = search needs
 
--- src/lib.rt:166:30
 run-fronts-requires : tie.Need-run-fronts-requires
 run-fronts-requires c κs = let a = c .before .before .before .before .before .before .before .before .before .before .before .before .before .before .before .before .before .args in
     let g = goes (c .before .before .before .before .before .before .before .before .before .test .ensures) (c .before .before .before .before .before .s .given .1) in
     let m = c .before .before .before .before .before .before .before .before .before .before .before .before .before .before .before .shorter .ensures in
     fronts (a .problem .now) _ _ _ (a .profile .now) (a .found .now) (a .state) (g .is-laid) (omega (arith, g .lists)) (omega (arith, g .lists)) (g .fit) (g .at)
 
--- src/lib.rt:150:1
 same-length : tie.Need-same-length
 same-length c = search needs
 
--- src/lib.rt:150:1
 same-length-2 : tie.Need-same-length-2
 same-length-2 c = search needs
 
--- src/lib.rt:150:1
 same-length-3 : tie.Need-same-length-3
 same-length-3 c = search needs
 
--- src/lib.rt:150:1
 same-length-4 : tie.Need-same-length-4
 same-length-4 c = search needs
 
--- src/lib.rt:150:1
 returns : tie.Need-returns
 returns c = let a = c .before .before .before .before .before .before .before .before .before .before .before .before .before .args in
     let X = rw (c .before .before .before .before .before .before .before .before .before .before .before .shorter .ensures) at (c .before .before .before .before .before .test .ensures) in
     let (x, y) = stops X (c .before .k .given .1) in
     next-refused (a .problem .now) (record { table = a .table .now; spare = a .spare .now; path = a .path .now; profile = a .profile .now; found = a .found .now }) (a .state) (a .allowance) _ _ x y (X .spare-is)
 
--- src/lib.rt:150:1
 same-length-5 : tie.Need-same-length-5
 same-length-5 c = search needs
 
--- src/lib.rt:150:1
 same-length-6 : tie.Need-same-length-6
 same-length-6 c = search needs
 
--- src/lib.rt:150:1
 same-length-7 : tie.Need-same-length-7
 same-length-7 c = search needs
 
--- src/lib.rt:150:1
 same-length-8 : tie.Need-same-length-8
 same-length-8 c = search needs
 
--- src/lib.rt:150:1
 same-length-9 : tie.Need-same-length-9
 same-length-9 c = search needs
 
--- src/lib.rt:150:1
 returns-2 : tie.Need-returns-2
 returns-2 c = let a = c .before .before .before .before .before .before .before .before .before .before .before .before .before .before .before .before .before .before .before .before .before .before .before .args in
     let X = rw (c .before .before .before .before .before .before .before .before .before .before .before .before .before .before .before .before .before .before .before .before .before .shorter .ensures) at (c .before .before .before .before .before .before .before .before .before .before .before .before .before .before .before .test .ensures) in

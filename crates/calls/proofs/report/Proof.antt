@@ -10,15 +10,12 @@ use Rattle.calls.proofs.report.Reads as reads
 use Rattle.calls.proofs.report.Lts as lts
 use Rattle.calls.proofs.front_length.Reads as front-length-reads
 
--- src/lib.rt:188:9
 front-length-requires : tie.Need-front-length-requires
 front-length-requires c κs = search needs
 
--- src/lib.rt:189:5
 slice-aggregate-result : tie.Need-slice-aggregate-result
 slice-aggregate-result c = sym (length-take-le _ _ (c .before .front-length .ensures .1))
 
--- src/lib.rt:185:1
 returns : tie.Need-returns
 returns c = let a = c .before .before .args in ap (λ (k : ℕ). take k (a .found .now)) (c .before .front-length .ensures .0) ∙ front-part (a .state .phase) (a .state .depth) (a .found .now)
 

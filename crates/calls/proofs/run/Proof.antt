@@ -14,19 +14,15 @@ use Rattle.calls.proofs.wide.Reads as wide-reads
 use Rattle.search.proofs.go.Reads as go-reads
 use Rattle.search.proofs.write_found.Reads as write-found-reads
 
--- src/lib.rt:123:9
 go-requires : tie.Need-go-requires
 go-requires c κs = (c .before .before .before .before .pre .0, (c .before .before .before .before .pre .1 .0, c .before .before .before .before .pre .1 .1 .0))
 
--- src/lib.rt:124:33
 enum-known-answer : tie.Need-enum-known-answer
 enum-known-answer c = search needs
 
--- src/lib.rt:125:40
 wide-requires : tie.Need-wide-requires
 wide-requires c κs = search needs
 
--- src/lib.rt:125:9
 write-found-requires : tie.Need-write-found-requires
 write-found-requires c κs = let B = c .before .before .before .before .before .before .before .before .before .before .before .before .before .before .before .before .pre .1 .1 .0 in
     let a = c .before .before .before .before .before .before .before .before .before .before .before .before .before .before .before .before .args in
@@ -35,23 +31,18 @@ write-found-requires c κs = let B = c .before .before .before .before .before .
     let d = c .wide .ensures ∙ solved w (started (a .state)) (R .answer) (c .before .before .before .before .before .answer .given .1) .1 in
     ((B .0, w .at, on-level (R .on) d), omega (arith, d, level-within (R .on), c .before .before .before .before .before .before .before .before .before .before .before .go .kept .1 .0, c .before .before .before .before .before .before .before .before .before .before .before .before .before .before .before .before .pre .1 .1 .1))
 
--- src/lib.rt:108:1
 same-length : tie.Need-same-length
 same-length c = search needs
 
--- src/lib.rt:108:1
 same-length-2 : tie.Need-same-length-2
 same-length-2 c = search needs
 
--- src/lib.rt:108:1
 same-length-3 : tie.Need-same-length-3
 same-length-3 c = search needs
 
--- src/lib.rt:108:1
 same-length-4 : tie.Need-same-length-4
 same-length-4 c = search needs
 
--- src/lib.rt:108:1
 returns : tie.Need-returns
 returns c = λ P v B.
     let a = c .before .before .before .before .before .before .before .before .before .before .before .before .before .before .before .before .before .before .args in
@@ -61,19 +52,15 @@ returns c = λ P v B.
     let d = c .before .before .wide .ensures ∙ e .1 in
     record { ran = record { answer = sym (c .before .before .before .before .before .before .before .answer .given .1) ∙ R .answer; on = R .on; profile-is = R .profile-is }; found-is = c .before .write-found .ensures P (w .at) (on-level (R .on) d) ∙ wrote w (a .found .now) (e .0) }
 
--- src/lib.rt:108:1
 same-length-5 : tie.Need-same-length-5
 same-length-5 c = search needs
 
--- src/lib.rt:108:1
 same-length-6 : tie.Need-same-length-6
 same-length-6 c = search needs
 
--- src/lib.rt:108:1
 same-length-7 : tie.Need-same-length-7
 same-length-7 c = search needs
 
--- src/lib.rt:108:1
 returns-2 : tie.Need-returns-2
 returns-2 c = λ P v B.
     let a = c .before .before .before .before .before .before .before .before .before .before .args in

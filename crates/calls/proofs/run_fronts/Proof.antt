@@ -1,4 +1,4 @@
-use mathlib.Core.Path.{_≡_, sym, _∙_}
+use mathlib.Core.Path.{sym, _∙_}
 use Prim.Native.Nat.{_≤_}
 use native.Mathlib.Omega.{arith}
 use borrow.Author.Needs.{needs}
@@ -7,44 +7,31 @@ use lib.Seq.{length-take-le}
 use Rattle.calls.proofs.Outcomes.{over-part}
 use Rattle.calls.proofs.run_fronts.Statement.{statement}
 use Rattle.calls.proofs.run_fronts.Tie as tie
-use Rattle.calls.proofs.run_fronts.Reads as reads
-use Rattle.calls.proofs.run_fronts.Lts as lts
-use Rattle.calls.proofs.run.Reads as run-reads
-use Rattle.problem.proofs.table_words.Reads as table-words-reads
 
--- src/lib.rt:143:9
 table-words-requires : tie.Need-table-words-requires
 table-words-requires c κs = c .before .pre .small
 
--- src/lib.rt:145:13
 add-n : tie.Need-add-n
 add-n c = omega (arith, c .before .before .before .pre .small)
 
--- src/lib.rt:146:9
 slice-relend-prefix-run : tie.Need-slice-relend-prefix-run
 slice-relend-prefix-run c = omega (arith, c .before .table-words .ensures, c .before .before .before .pre .table-room)
 
--- src/lib.rt:146:9
 slice-aggregate-run : tie.Need-slice-aggregate-run
 slice-aggregate-run c = sym (length-take-le _ _ (slice-relend-prefix-run (c .before)))
 
--- src/lib.rt:146:30
 slice-relend-prefix-run-2 : tie.Need-slice-relend-prefix-run-2
 slice-relend-prefix-run-2 c = c .before .before .before .before .pre .path-room
 
--- src/lib.rt:146:30
 slice-aggregate-run-2 : tie.Need-slice-aggregate-run-2
 slice-aggregate-run-2 c = sym (length-take-le _ _ (c .before .before .before .before .before .pre .path-room))
 
--- src/lib.rt:146:47
 slice-relend-prefix-run-3 : tie.Need-slice-relend-prefix-run-3
 slice-relend-prefix-run-3 c = c .before .before .before .before .before .pre .profile-room
 
--- src/lib.rt:146:47
 slice-aggregate-run-3 : tie.Need-slice-aggregate-run-3
 slice-aggregate-run-3 c = sym (length-take-le _ _ (c .before .before .before .before .before .before .pre .profile-room))
 
--- src/lib.rt:146:5
 run-requires : tie.Need-run-requires
 run-requires c κs = let F = c .before .before .before .before .before .before .before .pre in
     let a = c .before .before .before .before .before .before .before .args in
@@ -53,23 +40,18 @@ run-requires c κs = let F = c .before .before .before .before .before .before .
     let lr = length-take-le (a .s .np) (a .profile .now) (F .profile-room) in
     (F .updates-fit, (record { long = lr ∙ sym lp; small = F .profile-fits }, (rw w (F .begun), omega (arith, F .found-room))))
 
--- src/lib.rt:131:1
 same-length : tie.Need-same-length
 same-length c = search needs
 
--- src/lib.rt:131:1
 same-length-2 : tie.Need-same-length-2
 same-length-2 c = search needs
 
--- src/lib.rt:131:1
 same-length-3 : tie.Need-same-length-3
 same-length-3 c = search needs
 
--- src/lib.rt:131:1
 same-length-4 : tie.Need-same-length-4
 same-length-4 c = search needs
 
--- src/lib.rt:131:1
 returns : tie.Need-returns
 returns c = λ P v B.
     let a = c .before .before .before .before .before .before .before .before .before .before .before .before .before .args in

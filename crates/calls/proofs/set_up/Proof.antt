@@ -1,8 +1,8 @@
-use mathlib.Core.Path.{_≡_, sym, ap, _∙_}
-use mathlib.Core.List.{List, []}
-use Prim.Native.Nat.{ℕ, _≤_}
+use mathlib.Core.Path.{sym, ap, _∙_}
+use mathlib.Core.List.{[]}
+use Prim.Native.Nat.{ℕ}
 use native.Mathlib.Omega.{arith}
-use lib.ListN.{length, replicate}
+use lib.ListN.{replicate}
 use Rattle.rules.specs.Lists.{over}
 use Rattle.rules.specs.Calls.{SetUpLent, path-words}
 use Rattle.calls.proofs.Entry.{set-up-stops, set-up-goes}
@@ -11,77 +11,54 @@ use Rattle.calls.proofs.Points.{np-meant}
 use borrow.Author.Needs.{needs}
 use Rattle.calls.proofs.set_up.Statement.{statement}
 use Rattle.calls.proofs.set_up.Tie as tie
-use Rattle.calls.proofs.set_up.Reads as reads
-use Rattle.calls.proofs.set_up.Lts as lts
-use Rattle.calls.proofs.clear_profile.Reads as clear-profile-reads
-use Rattle.calls.proofs.lay_out.Reads as lay-out-reads
-use Rattle.calls.proofs.ready.Reads as ready-reads
-use Rattle.calls.proofs.test.shorter.Reads as shorter-reads
-use Rattle.problem.proofs.room.accept.Reads as accept-reads
-use Rattle.rules.proofs.library.Reads as library-reads
 
--- src/lib.rt:96:9
 shorter-requires : tie.Need-shorter-requires
 shorter-requires c κs = search needs
 
--- src/lib.rt:97:27
 library-requires : tie.Need-library-requires
 library-requires c κs = search needs
 
--- src/lib.rt:97:61
 slice-aggregate-accept : tie.Need-slice-aggregate-accept
 slice-aggregate-accept c = search needs
 
--- src/lib.rt:97:11
 accept-requires : tie.Need-accept-requires
-accept-requires c κs = rw (c .before .library .ensures) (record { marked = omega arith; small = omega arith })
+accept-requires c κs = search needs
 
--- src/lib.rt:98:26
 enum-known-k : tie.Need-enum-known-k
 enum-known-k c = search needs
 
--- src/lib.rt:98:53
 ready-requires : tie.Need-ready-requires
 ready-requires c κs = search needs
 
--- src/lib.rt:99:24
 enum-known-s : tie.Need-enum-known-s
 enum-known-s c = search needs
 
--- src/lib.rt:100:13
 lay-out-requires : tie.Need-lay-out-requires
-lay-out-requires c κs = set-up-goes _ (record { table = c .before .before .before .before .before .before .before .before .before .before .before .args .table .now; path = c .before .before .before .before .before .before .before .before .before .before .before .args .path .now; profile = c .before .before .before .before .before .before .before .before .before .before .before .args .profile .now }) (c .before .before .before .before .before .before .before .before .library .ensures) (c .before .before .before .before .before .before .before .before .before .shorter .ensures) (c .before .before .before .before .before .before .accept .ensures) (c .before .before .before .s .given .1) .1
+lay-out-requires c κs = set-up-goes _ (record { table = c .before .before .before .before .before .before .before .before .before .before .before .args .table .now; path = c .before .before .before .before .before .before .before .before .before .before .before .args .path .now; profile = c .before .before .before .before .before .before .before .before .before .before .before .args .profile .now }) (c .before .before .before .before .before .before .before .before .library .ensures) (c .before .before .before .before .before .before .before .before .before .shorter .ensures) _ (c .before .before .before .before .before .before .accept .ensures) (omega arith) (c .before .before .before .s .given .1) .1
 
--- src/lib.rt:101:13
 clear-profile-requires : tie.Need-clear-profile-requires
-clear-profile-requires c κs = set-up-goes _ (record { table = c .before .before .before .before .before .before .before .before .before .before .before .before .before .before .before .args .table .now; path = c .before .before .before .before .before .before .before .before .before .before .before .before .before .before .before .args .path .now; profile = c .before .before .before .before .before .before .before .before .before .before .before .before .before .before .before .args .profile .now }) (c .before .before .before .before .before .before .before .before .before .before .before .before .library .ensures) (c .before .before .before .before .before .before .before .before .before .before .before .before .before .shorter .ensures) (c .before .before .before .before .before .before .before .before .before .before .accept .ensures) (c .before .before .before .before .before .before .before .s .given .1) .2
+clear-profile-requires c κs = set-up-goes _ (record { table = c .before .before .before .before .before .before .before .before .before .before .before .before .before .before .before .args .table .now; path = c .before .before .before .before .before .before .before .before .before .before .before .before .before .before .before .args .path .now; profile = c .before .before .before .before .before .before .before .before .before .before .before .before .before .before .before .args .profile .now }) (c .before .before .before .before .before .before .before .before .before .before .before .before .library .ensures) (c .before .before .before .before .before .before .before .before .before .before .before .before .before .shorter .ensures) _ (c .before .before .before .before .before .before .before .before .before .before .accept .ensures) (omega arith) (c .before .before .before .before .before .before .before .s .given .1) .2
 
--- src/lib.rt:102:32
 ready-requires-2 : tie.Need-ready-requires-2
 ready-requires-2 c κs = search needs
 
--- src/lib.rt:87:1
 returns : tie.Need-returns
 returns c = let l : SetUpLent = record { table = c .before .before .before .before .before .before .before .before .before .before .args .table .now; path = c .before .before .before .before .before .before .before .before .before .before .args .path .now; profile = c .before .before .before .before .before .before .before .before .before .before .args .profile .now } in
-    let (x, y) = set-up-stops (c .before .before .before .before .before .before .before .before .before .before .args .problem .now) l (c .before .before .before .before .before .before .before .library .ensures) (c .before .before .before .before .before .before .before .before .shorter .ensures) (c .before .before .before .before .before .accept .ensures) (c .before .before .k .given .1) in
+    let (x, y) = set-up-stops (c .before .before .before .before .before .before .before .before .before .before .args .problem .now) l (c .before .before .before .before .before .before .before .library .ensures) (c .before .before .before .before .before .before .before .before .shorter .ensures) _ (c .before .before .before .before .before .accept .ensures) (omega arith) (c .before .before .k .given .1) in
     rw (c .ready .ensures) (set-up-refused _ l _ x y)
 
--- src/lib.rt:87:1
 same-length : tie.Need-same-length
 same-length c = search needs
 
--- src/lib.rt:87:1
 same-length-2 : tie.Need-same-length-2
 same-length-2 c = search needs
 
--- src/lib.rt:87:1
 same-length-3 : tie.Need-same-length-3
 same-length-3 c = search needs
 
--- src/lib.rt:87:1
 returns-2 : tie.Need-returns-2
 returns-2 c = let l : SetUpLent = record { table = c .before .before .before .before .before .before .before .before .before .before .before .before .before .before .before .before .before .before .before .args .table .now; path = c .before .before .before .before .before .before .before .before .before .before .before .before .before .before .before .before .before .before .before .args .path .now; profile = c .before .before .before .before .before .before .before .before .before .before .before .before .before .before .before .before .before .before .before .args .profile .now } in
-    let g = set-up-goes (c .before .before .before .before .before .before .before .before .before .before .before .before .before .before .before .before .before .before .before .args .problem .now) l (c .before .before .before .before .before .before .before .before .before .before .before .before .before .before .before .before .library .ensures) (c .before .before .before .before .before .before .before .before .before .before .before .before .before .before .before .before .before .shorter .ensures) (c .before .before .before .before .before .before .before .before .before .before .before .before .before .before .accept .ensures) (c .before .before .before .before .before .before .before .before .before .before .before .s .given .1) in
+    let g = set-up-goes (c .before .before .before .before .before .before .before .before .before .before .before .before .before .before .before .before .before .before .before .args .problem .now) l (c .before .before .before .before .before .before .before .before .before .before .before .before .before .before .before .before .library .ensures) (c .before .before .before .before .before .before .before .before .before .before .before .before .before .before .before .before .before .shorter .ensures) _ (c .before .before .before .before .before .before .before .before .before .before .before .before .before .before .accept .ensures) (omega arith) (c .before .before .before .before .before .before .before .before .before .before .before .s .given .1) in
     let n = sym (np-meant _ _ (g .1 .measured)) in
     rw (c .ready2 .ensures) (set-up-done _ l _ _ _ (g .0) (c .before .before .before .before .before .before .before .lay-out .ensures .0) (c .before .before .before .before .before .before .before .lay-out .ensures .1 ∙ ap (λ (k : ℕ). over (path-words k []) (l .path)) n) (c .before .before .before .clear-profile .ensures ∙ ap (λ (k : ℕ). over (replicate k 0) (l .profile)) n))
 

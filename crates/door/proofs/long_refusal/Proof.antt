@@ -19,7 +19,7 @@ long : (q : tie.After-number-of) → 579 < length (bytes-words (q .before .befor
 long q = omega (arith, words-long (q .before .before .before .before .before .before .before .before .args .problem .now) .1, q .before .before .before .before .before .before .before .before .pre)
 
 alone : (q : tie.After-number-of) → q .number-of .result ≡ cut-refusal door-limits 1 (take 3 (bytes-words (q .before .before .before .before .before .before .before .before .args .problem .now)))
-alone q = q .number-of .ensures _ _ (heads-judged (bytes-words (q .before .before .before .before .before .before .before .before .args .problem .now)) (q .before .before .door .ensures) (q .before .before .before .before .before .read-words .ensures) (q .before .check .ensures))
+alone q = q .number-of .ensures _ _ (heads-judged (bytes-words (q .before .before .before .before .before .before .before .before .args .problem .now)) (q .before .before .door .ensures) (q .before .before .before .before .before .read-words .ensures) (q .before .check .ensures .0))
 
 ns-natural : (q : tie.Else2) → nonNeg (word (bytes-words (q .before .before .before .before .before .before .before .before .before .before .before .before .args .problem .now)) 1) ≡ true
 ns-natural q = ap nonNeg (sym (head-is (bytes-words (q .before .before .before .before .before .before .before .before .before .before .before .before .args .problem .now)) 1 (omega arith) (q .before .before .before .before .before .before .before .before .before .read-words .ensures))) ∙ sym (q .before .is-natural .ensures) ∙ not-false _ (q .if2 .left)

@@ -6,6 +6,8 @@ use Rattle.rules.specs.Problem.{parts}
 use Rattle.rules.specs.Words.{word, nat}
 use Rattle.problem.proofs.VerdictLaws.{refused-head, cut-wrong, cut-many, cut-fits}
 use Rattle.problem.specs.Heads.{Headed, Heads}
+use Rattle.problem.specs.CutLaws.{cannot}
+use Rattle.problem.specs.Measured.{countable}
 use Rattle.problem.specs.Sums.{no-sums, total}
 use Rattle.problem.proofs.check.Statement.{statement}
 use Rattle.problem.proofs.check.Tie as tie
@@ -28,7 +30,7 @@ heads-requires c κs = search needs
 returns : tie.Need-returns
 returns c =
     let s = c .before .before .args in
-    refused-head (s .limits) (s .least) (now (s .problem)) (c .before .heads .result) (c .before .heads .ensures) (c .if1 .taken)
+    (refused-head (s .limits) (s .least) (now (s .problem)) (c .before .heads .result) (c .before .heads .ensures) (c .if1 .taken), λ s e. cannot (cc))
 
 link-at-requires : tie.Need-link-at-requires
 link-at-requires c κs = let h = first-three c in (omega arith, h .np)
@@ -51,17 +53,20 @@ enum-told c = search needs
 returns-2 : tie.Need-returns-2
 returns-2 c =
     let s = c .before .before .before .before .before .before .before .before .args in
-    cut-wrong (s .limits) (s .least) (now (s .problem)) (passed (c .before .before .before .before .before .before)) (sym (c .enum-told .given .1) ∙ came-to (c .before .before))
+    (cut-wrong (s .limits) (s .least) (now (s .problem)) (passed (c .before .before .before .before .before .before)) (sym (c .enum-told .given .1) ∙ came-to (c .before .before)), λ s e. cannot (cc))
 
 returns-3 : tie.Need-returns-3
 returns-3 c =
     let s = c .before .before .before .before .before .before .before .before .before .before .before .before .args in
-    cut-many (s .limits) (s .least) (now (s .problem)) (passed (c .before .before .before .before .before .before .before .before .before .before)) (c .before .before .before .before .s .given .0 .0) (sym (c .before .before .before .before .s .given .1) ∙ came-to (c .before .before .before .before .before .before)) (omega arith)
+    (cut-many (s .limits) (s .least) (now (s .problem)) (passed (c .before .before .before .before .before .before .before .before .before .before)) (c .before .before .before .before .s .given .0 .0) (sym (c .before .before .before .before .s .given .1) ∙ came-to (c .before .before .before .before .before .before)) (omega arith), λ s e. cannot (cc))
 
 returns-4 : tie.Need-returns-4
 returns-4 c =
     let s = c .before .before .before .before .before .before .before .before .before .before .before .before .args in
-    cc (cut-fits (s .limits) (s .least) (now (s .problem)) (passed (c .before .before .before .before .before .before .before .before .before .before)) (c .before .before .before .before .s .given .0 .0) (sym (c .before .before .before .before .s .given .1) ∙ came-to (c .before .before .before .before .before .before)) (omega arith))
+    countable (s .limits) (s .least) (now (s .problem)) _
+    (cc (cut-fits (s .limits) (s .least) (now (s .problem)) (passed (c .before .before .before .before .before .before .before .before .before .before)) (c .before .before .before .before .s .given .0 .0) (sym (c .before .before .before .before .s .given .1) ∙ came-to (c .before .before .before .before .before .before)) (omega arith)))
+    (c .before .before .before .before .before .before .before .before .before .link-at .ensures .small) (c .before .before .before .before .before .before .before .before .link-at2 .ensures .small) (c .before .before .before .before .before .before .before .link-at3 .ensures .small)
+    (omega arith)
 
 pub check-spec : {M : Type 1} → statement M
 check-spec =

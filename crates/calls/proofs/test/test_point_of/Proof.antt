@@ -1,4 +1,4 @@
-use mathlib.Core.Path.{_≡_, sym, _∙_}
+use mathlib.Core.Path.{sym, _∙_}
 use Prim.Native.Nat.{_≤_}
 use native.Mathlib.Omega.{arith}
 use borrow.Author.Tests.{not-true, not-false}
@@ -8,53 +8,37 @@ use Rattle.calls.proofs.Pointing.{counts-are, point-is, fresh-over, at-
 use borrow.Author.Needs.{needs}
 use Rattle.calls.proofs.test.test_point_of.Statement.{statement}
 use Rattle.calls.proofs.test.test_point_of.Tie as tie
-use Rattle.calls.proofs.test.test_point_of.Reads as reads
-use Rattle.calls.proofs.test.test_point_of.Lts as lts
-use Rattle.calls.proofs.test.counts_fit.Reads as counts-fit-reads
-use Rattle.calls.proofs.test.fresh_point.Reads as fresh-point-reads
-use Rattle.calls.proofs.test.shorter.Reads as shorter-reads
-use Rattle.problem.proofs.table_words.Reads as table-words-reads
 
--- src/test.rt:85:9
 shorter-requires : tie.Need-shorter-requires
 shorter-requires c κs = search needs
 
--- src/test.rt:86:27
 slice-aggregate-counts-fit : tie.Need-slice-aggregate-counts-fit
 slice-aggregate-counts-fit c = sym (length-take-le _ _ (let h : c .before .shorter .result ≤ length (c .before .before .before .args .profile .now) = omega (arith, c .before .shorter .ensures) in h))
 
--- src/test.rt:86:9
 counts-fit-requires : tie.Need-counts-fit-requires
 counts-fit-requires c κs = search needs
 
--- src/test.rt:87:9
 returns : tie.Need-returns
 returns c =
     let a = c .before .before .before .before .before .args in
     let L = c .before .before .before .before .before .pre .0 in
     at-11 _ _ _ _ _ (a .s) (a .state) (sym (counts-are _ (a .s) (L .measured) (a .state) (a .profile .now) _ (c .before .before .before .shorter .ensures) (c .before .counts-fit .ensures)) ∙ not-true _ (c .if1 .taken))
 
--- src/test.rt:89:9
 table-words-requires : tie.Need-table-words-requires
 table-words-requires c κs = search needs
 
--- src/test.rt:90:33
 slice-aggregate-fresh-point : tie.Need-slice-aggregate-fresh-point
 slice-aggregate-fresh-point c = sym (length-take-le _ _ (let h : c .before .table-words .result ≤ length (c .before .before .before .before .before .before .before .args .table .now) = omega (arith, c .before .table-words .ensures, c .before .before .before .before .before .before .before .pre .0 .table-room) in h))
 
--- src/test.rt:90:50
 slice-relend-prefix-fresh-point : tie.Need-slice-relend-prefix-fresh-point
 slice-relend-prefix-fresh-point c = search needs
 
--- src/test.rt:90:50
 slice-aggregate-fresh-point-2 : tie.Need-slice-aggregate-fresh-point-2
 slice-aggregate-fresh-point-2 c = sym (length-take-le _ _ (let h : c .before .before .table-words .result ≤ length (c .before .before .before .before .before .before .before .before .args .spare .now) = omega (arith, c .before .before .table-words .ensures, c .before .before .before .before .before .before .before .before .pre .1) in h))
 
--- src/test.rt:90:71
 slice-aggregate-fresh-point-3 : tie.Need-slice-aggregate-fresh-point-3
 slice-aggregate-fresh-point-3 c = sym (length-take-le _ _ (let h : c .before .before .before .before .before .before .before .before .before .args .s .np ≤ length (c .before .before .before .before .before .before .before .before .before .args .path .now) = omega (arith, c .before .before .before .before .before .before .before .before .before .pre .0 .path-room) in h))
 
--- src/test.rt:90:9
 fresh-point-requires : tie.Need-fresh-point-requires
 fresh-point-requires c κs =
     let L = c .before .before .before .before .before .before .before .before .before .pre .0 in
@@ -67,11 +51,9 @@ fresh-point-requires c κs =
       path-long = sym (slice-aggregate-fresh-point-3 c);
     }
 
--- src/test.rt:91:9
 same-length : tie.Need-same-length
 same-length c = search needs
 
--- src/test.rt:91:9
 returns-2 : tie.Need-returns-2
 returns-2 c =
     let a = c .before .before .before .before .before .before .before .before .before .before .before .before .args in
@@ -82,11 +64,9 @@ returns-2 c =
     at-10 _ _ _ _ _ (a .s) (a .state) fit (fresh-over _ (a .s) (L .measured) (L .faultless) (a .spare .now) _ _ w (p .1))
     (sym (point-is _ (a .s) (L .measured) (a .state) (a .table .now) (a .path .now) _ w (p .0)) ∙ not-true _ (c .if2 .taken))
 
--- src/test.rt:71:1
 same-length-2 : tie.Need-same-length-2
 same-length-2 c = search needs
 
--- src/test.rt:71:1
 returns-3 : tie.Need-returns-3
 returns-3 c =
     let a = c .before .before .before .before .before .before .before .before .before .before .before .before .args in

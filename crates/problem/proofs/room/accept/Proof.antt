@@ -1,75 +1,79 @@
 use borrow.Author.Needs.{needs}
-use mathlib.Core.Path.{_≡_, sym, _∙_}
+use mathlib.Core.Path.{_≡_, sym, ap, _∙_}
+use native.Mathlib.Nat.{min-le-right}
 use native.Mathlib.Omega.{arith}
+use denote.Ref.{now}
+use lib.ListN.{length}
+use Rattle.rules.specs.declared.Limits.{Limits}
 use Rattle.rules.specs.declared.Sizes.{Sizes}
 use Rattle.rules.specs.declared.Verdict.the-variants.{Sized}
 use Rattle.rules.specs.Problem.{verdict}
-use Rattle.problem.specs.Measured.{measured, within, table-bound}
+use Rattle.problem.specs.Measured.{measured, within}
+use Rattle.problem.specs.Room.{served}
 use Rattle.problem.proofs.RoomLaws.{at-words, at-room, at-fault, at-end}
 use Rattle.problem.proofs.Tests.{fails, holds}
 use Rattle.problem.proofs.room.accept.Statement.{statement}
 use Rattle.problem.proofs.room.accept.Tie as tie
-use Rattle.problem.proofs.room.accept.Reads as reads
-use Rattle.problem.proofs.room.accept.Lts as lts
-use Rattle.problem.proofs.check.Reads as check-reads
-use Rattle.problem.proofs.fault.first_fault.Reads as first-fault-reads
-use Rattle.problem.proofs.room.has_room.Reads as has-room-reads
+
+-- the words' verdict under the limits that the marks leave
+checked : (q : tie.After-check) → let s = q .before .before .before .args in q .check .result ≡ verdict (served (s .limits) (length (now (s .marks)))) (s .least) (now (s .problem))
+checked q = let s = q .before .before .before .args in q .check .ensures .0 ∙ ap (λ (L : Limits). verdict L (s .least) (now (s .problem))) (q .before .served .ensures)
 
 -- the sizes that the cut words ask
 abbrev S : tie.After-known-told → Sizes
 S q = q .before .v .given .0 .0
 
-sized : (q : tie.After-known-told) → Sized (S q) ≡ verdict (q .before .before .before .before .before .args .limits) (q .before .before .before .before .before .args .least) (q .before .before .before .before .before .args .problem .now)
-sized q = sym (q .before .v .given .1) ∙ q .before .before .before .check .ensures
+sized : (q : tie.After-known-told) → let s = q .before .before .before .before .before .before .args in Sized (S q) ≡ verdict (served (s .limits) (length (now (s .marks)))) (s .least) (now (s .problem))
+sized q = sym (q .before .v .given .1) ∙ checked (q .before .before .before)
 
--- src/room.rt:30:9
+served-requires : tie.Need-served-requires
+served-requires c κs = search needs
+
 check-requires : tie.Need-check-requires
 check-requires c κs = search needs
 
--- src/room.rt:31:24
 enum-known-v : tie.Need-enum-known-v
 enum-known-v c = search needs
 
--- src/room.rt:32:9
 enum-told : tie.Need-enum-told
 enum-told c = search needs
 
--- src/room.rt:32:9
 returns : tie.Need-returns
-returns c = at-words _ _ _ _ _ _ (c .before .before .check .ensures) (c .enum-told .given .1)
+returns c = at-words _ _ _ _ _ _ (checked (c .before .before)) (c .enum-told .given .1)
 
--- src/room.rt:34:9
 has-room-requires : tie.Need-has-room-requires
-has-room-requires c κs = omega (arith, table-bound (within _ _ _ (S c) (sized c)), c .before .before .before .before .before .pre .small)
+has-room-requires c κs = c .before .before .before .check .ensures .1 (S c) (c .before .v .given .1)
 
--- src/room.rt:35:9
 returns-2 : tie.Need-returns-2
 returns-2 c = at-room _ _ _ _ (S (c .before .before)) (sized (c .before .before)) (fails (c .before .has-room .ensures) (c .if1 .taken))
 
--- src/room.rt:37:9
 first-fault-requires : tie.Need-first-fault-requires
-first-fault-requires c κs = (measured _ _ _ (S (c .before .before .before)) (sized (c .before .before .before)), omega (arith, within _ _ _ (S (c .before .before .before)) (sized (c .before .before .before)) .few-items, c .before .before .before .before .before .before .before .before .pre .marked))
+first-fault-requires c κs =
+    let q = c .before .before .before in
+    let s = q .before .before .before .before .before .before .args in
+    (measured _ _ _ (S q) (sized q), omega (arith, within _ _ _ (S q) (sized q) .few-items, min-le-right (s .limits .items) (length (now (s .marks)))))
 
--- src/room.rt:39:9
 same-length : tie.Need-same-length
 same-length c = search needs
 
--- src/room.rt:39:9
 returns-3 : tie.Need-returns-3
-returns-3 c = at-fault _ _ _ _ (S (c .before .before .before .before .before .before .before)) (sized (c .before .before .before .before .before .before .before)) (holds (c .before .before .before .before .before .before .has-room .ensures) (c .before .before .before .before .before .if1 .left)) _ (c .before .before .before .first-fault .ensures) (c .if2 .taken)
+returns-3 c =
+    let q = c .before .before .before .before .before .before .before in
+    at-fault _ _ _ _ (S q) (sized q) (holds (c .before .before .before .before .before .before .has-room .ensures) (c .before .before .before .before .before .if1 .left)) _ (c .before .before .before .first-fault .ensures) (c .if2 .taken)
 
--- src/room.rt:26:1
 same-length-2 : tie.Need-same-length-2
 same-length-2 c = search needs
 
--- src/room.rt:26:1
 returns-4 : tie.Need-returns-4
-returns-4 c = at-end _ _ _ _ (S (c .before .before .before .before .before .before .before)) (sized (c .before .before .before .before .before .before .before)) (holds (c .before .before .before .before .before .before .has-room .ensures) (c .before .before .before .before .before .if1 .left)) _ (c .before .before .before .first-fault .ensures) (c .if2 .left)
+returns-4 c =
+    let q = c .before .before .before .before .before .before .before in
+    at-end _ _ _ _ (S q) (sized q) (holds (c .before .before .before .before .before .before .has-room .ensures) (c .before .before .before .before .before .if1 .left)) _ (c .before .before .before .first-fault .ensures) (c .if2 .left)
 
 pub accept-spec : {M : Type 1} → statement M
 accept-spec =
     tie.close
     (tie.spec
+    served-requires
     check-requires
     enum-known-v
     enum-told
