@@ -30,7 +30,11 @@ loop-less : tie.Need-loop-less Inv-loop μ-loop
 loop-less c = omega arith
 
 loop-again : tie.Need-loop-again Inv-loop μ-loop
-loop-again c = (fill-next (pos 0) _ (c .before .before .before .before .loop .inv .0) (let h : c .before .before .before .before .loop .k < length (c .before .before .before .before .before .args .path .now) = omega (arith, c .before .before .before .before .before .pre) in h) (c .before .put-link .ensures), omega arith)
+loop-again c =
+    let a = c .before .before .before .before .before .args in
+    let pre = c .before .before .before .before .before .pre in
+    let loop = c .before .before .before .before .loop in
+    (fill-next (pos 0) _ (loop .inv .0) (let h : loop .k < length (a .path .now) = omega (arith, pre) in h) (c .before .put-link .ensures), omega arith)
 
 same-length : tie.Need-same-length Inv-loop μ-loop
 same-length c = filled-long (pos 0) (c .before .loop .inv .0)

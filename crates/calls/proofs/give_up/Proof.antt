@@ -45,8 +45,11 @@ same-length-3 : tie.Need-same-length-3
 same-length-3 c = search needs
 
 returns : tie.Need-returns
-returns c = let a = c .before .before .before .before .before .before .before .before .before .before .before .args in
-    let X = c .before .before .before .before .before .test .ensures in
+returns c =
+    let the-a = c .before .before .before .before .before .before .before .before .before .before .before .args in
+    let test = c .before .before .before .before .before .test in
+    let a = the-a in
+    let X = test .ensures in
     let (x, y) = stops X (c .before .k .given .1) in
     give-up-refused (a .problem .now) (record { table = a .table .now; spare = a .spare .now; path = a .path .now }) (a .state) _ _ x y (X .spare-is)
 
@@ -60,11 +63,16 @@ same-length-6 : tie.Need-same-length-6
 same-length-6 c = search needs
 
 returns-2 : tie.Need-returns-2
-returns-2 c = let a = c .before .before .before .before .before .before .before .before .before .before .before .before .before .before .before .before .before .args in
-    let X = c .before .before .before .before .before .before .before .before .before .before .before .test .ensures in
-    let g = goes X (c .before .before .before .before .before .before .before .s .given .1) in
+returns-2 c =
+    let the-a = c .before .before .before .before .before .before .before .before .before .before .before .before .before .before .before .before .before .args in
+    let test = c .before .before .before .before .before .before .before .before .before .before .before .test in
+    let s = c .before .before .before .before .before .before .before .s in
+    let lay-out = c .before .before .before .lay-out in
+    let a = the-a in
+    let X = test .ensures in
+    let g = goes X (s .given .1) in
     let n = sym (np-meant _ _ (g .is-laid .measured)) in
-    rw (c .ready .ensures) (give-up-done (a .problem .now) (record { table = a .table .now; spare = a .spare .now; path = a .path .now }) (a .state) _ _ _ (g .none) (c .before .before .before .lay-out .ensures .0) (X .spare-is) (c .before .before .before .lay-out .ensures .1 ∙ ap (λ (k : ℕ). over (path-words k []) (a .path .now)) n))
+    rw (c .ready .ensures) (give-up-done (a .problem .now) (record { table = a .table .now; spare = a .spare .now; path = a .path .now }) (a .state) _ _ _ (g .none) (lay-out .ensures .0) (X .spare-is) (lay-out .ensures .1 ∙ ap (λ (k : ℕ). over (path-words k []) (a .path .now)) n))
 
 pub give-up-spec : {M : Type 1} → statement M
 give-up-spec =

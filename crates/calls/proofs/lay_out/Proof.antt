@@ -36,10 +36,14 @@ same-length-2 c = search needs
 
 returns : tie.Need-returns
 returns c =
-    let a = c .before .before .before .before .before .before .before .args in
-    let i = c .before .before .before .before .init-links in
-    let w = c .before .before .before .before .before .before .table-words .result in
-    (over-part _ (a .table .now) _ w (i .ensures) (i .kept .0 ∙ sym (slice-aggregate-init-links (c .before .before .before .before .before))), c .before .clear-path .ensures ∙ ap (λ (x : List ℤ). over x (a .path .now)) (sym (top-words (a .s .np))))
+    let the-a = c .before .before .before .before .before .before .before .args in
+    let table-words = c .before .before .before .before .before .before .table-words in
+    let d = c .before .before .before .before .before in
+    let init-links = c .before .before .before .before .init-links in
+    let a = the-a in
+    let i = init-links in
+    let w = table-words .result in
+    (over-part _ (a .table .now) _ w (i .ensures) (i .kept .0 ∙ sym (slice-aggregate-init-links d)), c .before .clear-path .ensures ∙ ap (λ (x : List ℤ). over x (a .path .now)) (sym (top-words (a .s .np))))
 
 pub lay-out-spec : {M : Type 1} → statement M
 lay-out-spec =

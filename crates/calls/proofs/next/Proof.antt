@@ -30,9 +30,14 @@ enum-known-s : tie.Need-enum-known-s
 enum-known-s c = search needs
 
 run-fronts-requires : tie.Need-run-fronts-requires
-run-fronts-requires c κs = let a = c .before .before .before .before .before .before .before .before .before .before .before .before .before .before .before .before .before .args in
-    let g = goes (c .before .before .before .before .before .before .before .before .before .test .ensures) (c .before .before .before .before .before .s .given .1) in
-    let m = c .before .before .before .before .before .before .before .before .before .before .before .before .before .before .before .shorter .ensures in
+run-fronts-requires c κs =
+    let the-a = c .before .before .before .before .before .before .before .before .before .before .before .before .before .before .before .before .before .args in
+    let shorter = c .before .before .before .before .before .before .before .before .before .before .before .before .before .before .before .shorter in
+    let test = c .before .before .before .before .before .before .before .before .before .test in
+    let s = c .before .before .before .before .before .s in
+    let a = the-a in
+    let g = goes (test .ensures) (s .given .1) in
+    let m = shorter .ensures in
     fronts (a .problem .now) _ _ _ (a .profile .now) (a .found .now) (a .state) (g .is-laid) (omega (arith, g .lists)) (omega (arith, g .lists)) (g .fit) (g .at)
 
 same-length : tie.Need-same-length
@@ -48,8 +53,12 @@ same-length-4 : tie.Need-same-length-4
 same-length-4 c = search needs
 
 returns : tie.Need-returns
-returns c = let a = c .before .before .before .before .before .before .before .before .before .before .before .before .before .args in
-    let X = rw (c .before .before .before .before .before .before .before .before .before .before .before .shorter .ensures) at (c .before .before .before .before .before .test .ensures) in
+returns c =
+    let the-a = c .before .before .before .before .before .before .before .before .before .before .before .before .before .args in
+    let shorter = c .before .before .before .before .before .before .before .before .before .before .before .shorter in
+    let test = c .before .before .before .before .before .test in
+    let a = the-a in
+    let X = rw (shorter .ensures) at (test .ensures) in
     let (x, y) = stops X (c .before .k .given .1) in
     next-refused (a .problem .now) (record { table = a .table .now; spare = a .spare .now; path = a .path .now; profile = a .profile .now; found = a .found .now }) (a .state) (a .allowance) _ _ x y (X .spare-is)
 
@@ -69,13 +78,19 @@ same-length-9 : tie.Need-same-length-9
 same-length-9 c = search needs
 
 returns-2 : tie.Need-returns-2
-returns-2 c = let a = c .before .before .before .before .before .before .before .before .before .before .before .before .before .before .before .before .before .before .before .before .before .before .before .args in
-    let X = rw (c .before .before .before .before .before .before .before .before .before .before .before .before .before .before .before .before .before .before .before .before .before .shorter .ensures) at (c .before .before .before .before .before .before .before .before .before .before .before .before .before .before .before .test .ensures) in
-    let g = goes X (c .before .before .before .before .before .before .before .before .before .before .before .s .given .1) in
+returns-2 c =
+    let the-a = c .before .before .before .before .before .before .before .before .before .before .before .before .before .before .before .before .before .before .before .before .before .before .before .args in
+    let shorter = c .before .before .before .before .before .before .before .before .before .before .before .before .before .before .before .before .before .before .before .before .before .shorter in
+    let test = c .before .before .before .before .before .before .before .before .before .before .before .before .before .before .before .test in
+    let s = c .before .before .before .before .before .before .before .before .before .before .before .s in
+    let run-fronts = c .before .before .before .before .before .run-fronts in
+    let a = the-a in
+    let X = rw (shorter .ensures) at (test .ensures) in
+    let g = goes X (s .given .1) in
     let L = g .is-laid in
     let P : Problem = meant (cut (a .problem .now)) in
     let w : Walk = resume P (pick P) (a .allowance) (a .state .phase) (g .v) in
-    let W = c .before .before .before .before .before .run-fronts .ensures P (g .v) (begun _ _ (L .measured) (L .faultless) (L .small .0) (a .state) _ _ (L .path-room) (g .at)) in
+    let W = run-fronts .ensures P (g .v) (begun _ _ (L .measured) (L .faultless) (L .small .0) (a .state) _ _ (L .path-room) (g .at)) in
     next-ran (a .problem .now) (record { table = a .table .now; spare = a .spare .now; path = a .path .now; profile = a .profile .now; found = a .found .now }) (a .state) (a .allowance) (g .v) _ _ _ _ _ _ (g .none) (g .at) w refl
     (W .answer) (W .table-is) (X .spare-is) (W .path-is)
     (W .profile-is ∙ ap (λ (k : ℕ). over (profile-from 0 (w .visited) (take k (a .profile .now))) (a .profile .now)) (sym (np-meant _ _ (L .measured)))) (W .found-is)

@@ -24,12 +24,17 @@ wide-requires : tie.Need-wide-requires
 wide-requires c κs = search needs
 
 write-found-requires : tie.Need-write-found-requires
-write-found-requires c κs = let B = c .before .before .before .before .before .before .before .before .before .before .before .before .before .before .before .before .pre .1 .1 .0 in
-    let a = c .before .before .before .before .before .before .before .before .before .before .before .before .before .before .before .before .args in
+write-found-requires c κs =
+    let pre = c .before .before .before .before .before .before .before .before .before .before .before .before .before .before .before .before .pre in
+    let the-a = c .before .before .before .before .before .before .before .before .before .before .before .before .before .before .before .before .args in
+    let go = c .before .before .before .before .before .before .before .before .before .before .before .go in
+    let answer = c .before .before .before .before .before .answer in
+    let B = pre .1 .1 .0 in
+    let a = the-a in
     let w = resume (B .0) (pick (B .0)) (a .allowance) (a .state .phase) (B .1) in
-    let R = c .before .before .before .before .before .before .before .before .before .before .before .go .ensures (B .0) (B .1) (B .2) in
-    let d = c .wide .ensures ∙ solved w (started (a .state)) (R .answer) (c .before .before .before .before .before .answer .given .1) .1 in
-    ((B .0, w .at, on-level (R .on) d), omega (arith, d, level-within (R .on), c .before .before .before .before .before .before .before .before .before .before .before .go .kept .1 .0, c .before .before .before .before .before .before .before .before .before .before .before .before .before .before .before .before .pre .1 .1 .1))
+    let R = go .ensures (B .0) (B .1) (B .2) in
+    let d = c .wide .ensures ∙ solved w (started (a .state)) (R .answer) (answer .given .1) .1 in
+    ((B .0, w .at, on-level (R .on) d), omega (arith, d, level-within (R .on), go .kept .1 .0, pre .1 .1 .1))
 
 same-length : tie.Need-same-length
 same-length c = search needs
@@ -44,13 +49,17 @@ same-length-4 : tie.Need-same-length-4
 same-length-4 c = search needs
 
 returns : tie.Need-returns
-returns c = λ P v B.
-    let a = c .before .before .before .before .before .before .before .before .before .before .before .before .before .before .before .before .before .before .args in
+returns c =
+    let the-a = c .before .before .before .before .before .before .before .before .before .before .before .before .before .before .before .before .before .before .args in
+    let go = c .before .before .before .before .before .before .before .before .before .before .before .before .before .go in
+    let the-answer = c .before .before .before .before .before .before .before .answer in
+    λ P v B.
+    let a = the-a in
     let w = resume P (pick P) (a .allowance) (a .state .phase) v in
-    let R = c .before .before .before .before .before .before .before .before .before .before .before .before .before .go .ensures P v B in
-    let e = solved w (started (a .state)) (R .answer) (c .before .before .before .before .before .before .before .answer .given .1) in
+    let R = go .ensures P v B in
+    let e = solved w (started (a .state)) (R .answer) (the-answer .given .1) in
     let d = c .before .before .wide .ensures ∙ e .1 in
-    record { ran = record { answer = sym (c .before .before .before .before .before .before .before .answer .given .1) ∙ R .answer; on = R .on; profile-is = R .profile-is }; found-is = c .before .write-found .ensures P (w .at) (on-level (R .on) d) ∙ wrote w (a .found .now) (e .0) }
+    record { ran = record { answer = sym (the-answer .given .1) ∙ R .answer; on = R .on; profile-is = R .profile-is }; found-is = c .before .write-found .ensures P (w .at) (on-level (R .on) d) ∙ wrote w (a .found .now) (e .0) }
 
 same-length-5 : tie.Need-same-length-5
 same-length-5 c = search needs
@@ -62,9 +71,12 @@ same-length-7 : tie.Need-same-length-7
 same-length-7 c = search needs
 
 returns-2 : tie.Need-returns-2
-returns-2 c = λ P v B.
-    let a = c .before .before .before .before .before .before .before .before .before .before .args in
-    let R = c .before .before .before .before .before .go .ensures P v B in
+returns-2 c =
+    let the-a = c .before .before .before .before .before .before .before .before .before .before .args in
+    let go = c .before .before .before .before .before .go in
+    λ P v B.
+    let a = the-a in
+    let R = go .ensures P v B in
     record { ran = R; found-is = unsolved (resume P (pick P) (a .allowance) (a .state .phase) v) (started (a .state)) (a .found .now) (R .answer) (c .match .keys2) }
 
 pub run-spec : {M : Type 1} → statement M

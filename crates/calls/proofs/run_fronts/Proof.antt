@@ -33,9 +33,13 @@ slice-aggregate-run-3 : tie.Need-slice-aggregate-run-3
 slice-aggregate-run-3 c = sym (length-take-le _ _ (c .before .before .before .before .before .before .pre .profile-room))
 
 run-requires : tie.Need-run-requires
-run-requires c κs = let F = c .before .before .before .before .before .before .before .pre in
-    let a = c .before .before .before .before .before .before .before .args in
-    let w = c .before .before .before .before .before .table-words .ensures in
+run-requires c κs =
+    let pre = c .before .before .before .before .before .before .before .pre in
+    let the-a = c .before .before .before .before .before .before .before .args in
+    let table-words = c .before .before .before .before .before .table-words in
+    let F = pre in
+    let a = the-a in
+    let w = table-words .ensures in
     let lp = length-take-le (a .s .np) (a .path .now) (F .path-room) in
     let lr = length-take-le (a .s .np) (a .profile .now) (F .profile-room) in
     (F .updates-fit, (record { long = lr ∙ sym lp; small = F .profile-fits }, (rw w (F .begun), omega (arith, F .found-room))))
@@ -53,15 +57,20 @@ same-length-4 : tie.Need-same-length-4
 same-length-4 c = search needs
 
 returns : tie.Need-returns
-returns c = λ P v B.
-    let a = c .before .before .before .before .before .before .before .before .before .before .before .before .before .args in
-    let F = c .before .before .before .before .before .before .before .before .before .before .before .before .before .pre in
-    let w = c .before .before .before .before .before .before .before .before .before .before .before .table-words .ensures in
-    let k = c .before .before .before .before .before .run .kept in
-    let W = c .before .before .before .before .before .run .ensures P v (rw w B) in
+returns c =
+    let the-a = c .before .before .before .before .before .before .before .before .before .before .before .before .before .args in
+    let pre = c .before .before .before .before .before .before .before .before .before .before .before .before .before .pre in
+    let table-words = c .before .before .before .before .before .before .before .before .before .before .before .table-words in
+    let run = c .before .before .before .before .before .run in
+    λ P v B.
+    let a = the-a in
+    let F = pre in
+    let w = table-words .ensures in
+    let k = run .kept in
+    let W = run .ensures P v (rw w B) in
     record {
       answer = W .ran .answer;
-      table-is = over-part _ (a .table .now) _ (c .before .before .before .before .before .before .before .before .before .before .before .table-words .result) (W .ran .on .at .is) (k .0 ∙ length-take-le _ _ (let h : c .before .before .before .before .before .before .before .before .before .before .before .table-words .result ≤ length (a .table .now) = omega (arith, w, F .table-room) in h));
+      table-is = over-part _ (a .table .now) _ (table-words .result) (W .ran .on .at .is) (k .0 ∙ length-take-le _ _ (let h : table-words .result ≤ length (a .table .now) = omega (arith, w, F .table-room) in h));
       path-is = over-part _ (a .path .now) _ (a .s .np) (W .ran .on .path-is) (k .1 .0 ∙ length-take-le _ _ (F .path-room));
       profile-is = over-part _ (a .profile .now) _ (a .s .np) (W .ran .profile-is) (k .1 .1 .0 ∙ length-take-le _ _ (F .profile-room));
       found-is = W .found-is;

@@ -34,17 +34,34 @@ enum-known-s : tie.Need-enum-known-s
 enum-known-s c = search needs
 
 lay-out-requires : tie.Need-lay-out-requires
-lay-out-requires c κs = set-up-goes _ (record { table = c .before .before .before .before .before .before .before .before .before .before .before .args .table .now; path = c .before .before .before .before .before .before .before .before .before .before .before .args .path .now; profile = c .before .before .before .before .before .before .before .before .before .before .before .args .profile .now }) (c .before .before .before .before .before .before .before .before .library .ensures) (c .before .before .before .before .before .before .before .before .before .shorter .ensures) _ (c .before .before .before .before .before .before .accept .ensures) (omega arith) (c .before .before .before .s .given .1) .1
+lay-out-requires c κs =
+    let a = c .before .before .before .before .before .before .before .before .before .before .before .args in
+    let shorter = c .before .before .before .before .before .before .before .before .before .shorter in
+    let library = c .before .before .before .before .before .before .before .before .library in
+    let accept = c .before .before .before .before .before .before .accept in
+    let s = c .before .before .before .s in
+    set-up-goes _ (record { table = a .table .now; path = a .path .now; profile = a .profile .now }) (library .ensures) (shorter .ensures) _ (accept .ensures) (omega arith) (s .given .1) .1
 
 clear-profile-requires : tie.Need-clear-profile-requires
-clear-profile-requires c κs = set-up-goes _ (record { table = c .before .before .before .before .before .before .before .before .before .before .before .before .before .before .before .args .table .now; path = c .before .before .before .before .before .before .before .before .before .before .before .before .before .before .before .args .path .now; profile = c .before .before .before .before .before .before .before .before .before .before .before .before .before .before .before .args .profile .now }) (c .before .before .before .before .before .before .before .before .before .before .before .before .library .ensures) (c .before .before .before .before .before .before .before .before .before .before .before .before .before .shorter .ensures) _ (c .before .before .before .before .before .before .before .before .before .before .accept .ensures) (omega arith) (c .before .before .before .before .before .before .before .s .given .1) .2
+clear-profile-requires c κs =
+    let a = c .before .before .before .before .before .before .before .before .before .before .before .before .before .before .before .args in
+    let shorter = c .before .before .before .before .before .before .before .before .before .before .before .before .before .shorter in
+    let library = c .before .before .before .before .before .before .before .before .before .before .before .before .library in
+    let accept = c .before .before .before .before .before .before .before .before .before .before .accept in
+    let s = c .before .before .before .before .before .before .before .s in
+    set-up-goes _ (record { table = a .table .now; path = a .path .now; profile = a .profile .now }) (library .ensures) (shorter .ensures) _ (accept .ensures) (omega arith) (s .given .1) .2
 
 ready-requires-2 : tie.Need-ready-requires-2
 ready-requires-2 c κs = search needs
 
 returns : tie.Need-returns
-returns c = let l : SetUpLent = record { table = c .before .before .before .before .before .before .before .before .before .before .args .table .now; path = c .before .before .before .before .before .before .before .before .before .before .args .path .now; profile = c .before .before .before .before .before .before .before .before .before .before .args .profile .now } in
-    let (x, y) = set-up-stops (c .before .before .before .before .before .before .before .before .before .before .args .problem .now) l (c .before .before .before .before .before .before .before .library .ensures) (c .before .before .before .before .before .before .before .before .shorter .ensures) _ (c .before .before .before .before .before .accept .ensures) (omega arith) (c .before .before .k .given .1) in
+returns c =
+    let a = c .before .before .before .before .before .before .before .before .before .before .args in
+    let shorter = c .before .before .before .before .before .before .before .before .shorter in
+    let library = c .before .before .before .before .before .before .before .library in
+    let accept = c .before .before .before .before .before .accept in
+    let l : SetUpLent = record { table = a .table .now; path = a .path .now; profile = a .profile .now } in
+    let (x, y) = set-up-stops (a .problem .now) l (library .ensures) (shorter .ensures) _ (accept .ensures) (omega arith) (c .before .before .k .given .1) in
     rw (c .ready .ensures) (set-up-refused _ l _ x y)
 
 same-length : tie.Need-same-length
@@ -57,10 +74,18 @@ same-length-3 : tie.Need-same-length-3
 same-length-3 c = search needs
 
 returns-2 : tie.Need-returns-2
-returns-2 c = let l : SetUpLent = record { table = c .before .before .before .before .before .before .before .before .before .before .before .before .before .before .before .before .before .before .before .args .table .now; path = c .before .before .before .before .before .before .before .before .before .before .before .before .before .before .before .before .before .before .before .args .path .now; profile = c .before .before .before .before .before .before .before .before .before .before .before .before .before .before .before .before .before .before .before .args .profile .now } in
-    let g = set-up-goes (c .before .before .before .before .before .before .before .before .before .before .before .before .before .before .before .before .before .before .before .args .problem .now) l (c .before .before .before .before .before .before .before .before .before .before .before .before .before .before .before .before .library .ensures) (c .before .before .before .before .before .before .before .before .before .before .before .before .before .before .before .before .before .shorter .ensures) _ (c .before .before .before .before .before .before .before .before .before .before .before .before .before .before .accept .ensures) (omega arith) (c .before .before .before .before .before .before .before .before .before .before .before .s .given .1) in
+returns-2 c =
+    let a = c .before .before .before .before .before .before .before .before .before .before .before .before .before .before .before .before .before .before .before .args in
+    let shorter = c .before .before .before .before .before .before .before .before .before .before .before .before .before .before .before .before .before .shorter in
+    let library = c .before .before .before .before .before .before .before .before .before .before .before .before .before .before .before .before .library in
+    let accept = c .before .before .before .before .before .before .before .before .before .before .before .before .before .before .accept in
+    let s = c .before .before .before .before .before .before .before .before .before .before .before .s in
+    let lay-out = c .before .before .before .before .before .before .before .lay-out in
+    let clear-profile = c .before .before .before .clear-profile in
+    let l : SetUpLent = record { table = a .table .now; path = a .path .now; profile = a .profile .now } in
+    let g = set-up-goes (a .problem .now) l (library .ensures) (shorter .ensures) _ (accept .ensures) (omega arith) (s .given .1) in
     let n = sym (np-meant _ _ (g .1 .measured)) in
-    rw (c .ready2 .ensures) (set-up-done _ l _ _ _ (g .0) (c .before .before .before .before .before .before .before .lay-out .ensures .0) (c .before .before .before .before .before .before .before .lay-out .ensures .1 ∙ ap (λ (k : ℕ). over (path-words k []) (l .path)) n) (c .before .before .before .clear-profile .ensures ∙ ap (λ (k : ℕ). over (replicate k 0) (l .profile)) n))
+    rw (c .ready2 .ensures) (set-up-done _ l _ _ _ (g .0) (lay-out .ensures .0) (lay-out .ensures .1 ∙ ap (λ (k : ℕ). over (path-words k []) (l .path)) n) (clear-profile .ensures ∙ ap (λ (k : ℕ). over (replicate k 0) (l .profile)) n))
 
 pub set-up-spec : {M : Type 1} → statement M
 set-up-spec =

@@ -14,7 +14,11 @@ enum-known-value : tie.Need-enum-known-value
 enum-known-value c = search needs
 
 put-link-requires : tie.Need-put-link-requires
-put-link-requires c κs = (c .before .before .before .before .before .before .pre, (let h = unsigned-small 2147483647 (now (c .before .before .before .before .before .before .args .text)) (sym (c .before .before .before .before .read-unsigned .ensures) ∙ c .before .before .value .given .1) in omega arith))
+put-link-requires c κs =
+    let pre = c .before .before .before .before .before .before .pre in
+    let a = c .before .before .before .before .before .before .args in
+    let read-unsigned = c .before .before .before .before .read-unsigned in
+    (pre, (let h = unsigned-small 2147483647 (now (a .text)) (sym (read-unsigned .ensures) ∙ c .before .before .value .given .1) in omega arith))
 
 enum-told : tie.Need-enum-told
 enum-told c = search needs

@@ -21,7 +21,12 @@ sub-put-spacer : tie.Need-sub-put-spacer
 sub-put-spacer c = search needs
 
 put-spacer-requires : tie.Need-put-spacer-requires
-put-spacer-requires c κs = (c .before .before .before .before .before .before .before .pre, (let h = unsigned-small 2147483648 (now (c .before .before .before .before .before .before .before .args .text)) (sym (c .before .before .before .before .before .read-unsigned .ensures) ∙ c .before .before .before .value .given .1) in omega arith))
+put-spacer-requires c κs =
+    let pre = c .before .before .before .before .before .before .before .pre in
+    let a = c .before .before .before .before .before .before .before .args in
+    let read-unsigned = c .before .before .before .before .before .read-unsigned in
+    let value = c .before .before .before .value in
+    (pre, (let h = unsigned-small 2147483648 (now (a .text)) (sym (read-unsigned .ensures) ∙ value .given .1) in omega arith))
 
 enum-told : tie.Need-enum-told
 enum-told c = search needs
@@ -30,7 +35,11 @@ same-length : tie.Need-same-length
 same-length c = search needs
 
 returns-2 : tie.Need-returns-2
-returns-2 c = put (ap under-zero (sym (c .before .before .before .before .before .before .before .read-unsigned .ensures) ∙ c .before .before .before .before .before .value .given .1) ∙ under-is (c .before .before .before .before .before .value .given .0 .0) (c .before .before .before .if1 .left)) (c .before .put-spacer .ensures)
+returns-2 c =
+    let read-unsigned = c .before .before .before .before .before .before .before .read-unsigned in
+    let value = c .before .before .before .before .before .value in
+    let if1 = c .before .before .before .if1 in
+    put (ap under-zero (sym (read-unsigned .ensures) ∙ value .given .1) ∙ under-is (value .given .0 .0) (if1 .left)) (c .before .put-spacer .ensures)
 
 returns-3 : tie.Need-returns-3
 returns-3 c = left (ap under-zero (sym (c .before .before .read-unsigned .ensures) ∙ c .enum-told .given .1)) refl

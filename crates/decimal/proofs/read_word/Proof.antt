@@ -24,7 +24,11 @@ same-length : tie.Need-same-length
 same-length c = search needs
 
 returns : tie.Need-returns
-returns c = said-as (signed-minus (now (c .before .before .before .before .before .before .before .args .text)) (sym (c .before .before .before .before .before .is-negative .ensures) ∙ c .before .before .before .before .if1 .taken)) (c .before .read-under-zero .ensures)
+returns c =
+    let a = c .before .before .before .before .before .before .before .args in
+    let is-negative = c .before .before .before .before .before .is-negative in
+    let if1 = c .before .before .before .before .if1 in
+    said-as (signed-minus (now (a .text)) (sym (is-negative .ensures) ∙ if1 .taken)) (c .before .read-under-zero .ensures)
 
 read-from-zero-requires : tie.Need-read-from-zero-requires
 read-from-zero-requires c κs = search needs

@@ -14,13 +14,23 @@ slice-aggregate-copy : tie.Need-slice-aggregate-copy
 slice-aggregate-copy c = search needs
 
 copy-requires : tie.Need-copy-requires
-copy-requires c κs = fits (c .before .before .decimal .last .1 .0) (now (c .before .before .before .before .before .args .out)) (c .before .before .before .before .before .args .value) (c .before .before .decimal .result) (c .before .before .decimal .ensures .0) (c .before .before .decimal .ensures .1 .0) (c .before .before .decimal .ensures .1 .1) (c .before .before .before .before .before .fits .value .fits) (c .before .before .before .before .before .pre)
+copy-requires c κs =
+    let a = c .before .before .before .before .before .args in
+    let the-fits = c .before .before .before .before .before .fits in
+    let pre = c .before .before .before .before .before .pre in
+    let decimal = c .before .before .decimal in
+    fits (decimal .last .1 .0) (now (a .out)) (a .value) (decimal .result) (decimal .ensures .0) (decimal .ensures .1 .0) (decimal .ensures .1 .1) (the-fits .value .fits) (pre)
 
 same-length : tie.Need-same-length
 same-length c = search needs
 
 returns : tie.Need-returns
-returns c = wrote (c .before .before .before .before .before .decimal .last .1 .0) (now (c .before .before .before .before .before .before .before .before .args .out)) (c .before .before .before .before .before .before .before .before .args .value) (c .before .before .before .before .before .decimal .result) (c .before .before .before .before .before .decimal .ensures .0) (c .before .before .before .before .before .decimal .ensures .1 .0) (c .before .before .before .before .before .decimal .ensures .1 .1) (c .before .before .before .before .before .before .before .before .fits .value .fits) (c .before .before .copy .ensures .0) (c .before .before .copy .ensures .1)
+returns c =
+    let a = c .before .before .before .before .before .before .before .before .args in
+    let the-fits = c .before .before .before .before .before .before .before .before .fits in
+    let decimal = c .before .before .before .before .before .decimal in
+    let copy = c .before .before .copy in
+    wrote (decimal .last .1 .0) (now (a .out)) (a .value) (decimal .result) (decimal .ensures .0) (decimal .ensures .1 .0) (decimal .ensures .1 .1) (the-fits .value .fits) (copy .ensures .0) (copy .ensures .1)
 
 pub write-unsigned-spec : {M : Type 1} → statement M
 write-unsigned-spec =

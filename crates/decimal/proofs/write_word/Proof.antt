@@ -50,7 +50,12 @@ same-length-2 : tie.Need-same-length-2
 same-length-2 c = length-lent (now (c .before .before .before .before .before .before .before .before .args .out)) (c .before .before .write-unsigned2 .last .1 .0) (c .before .before .write-unsigned2 .kept .1 .0)
 
 returns-2 : tie.Need-returns-2
-returns-2 c = wrote-negative (now (c .before .before .before .before .before .before .before .before .args .out)) (c .before .before .write-unsigned2 .last .1 .0) (c .before .before .before .before .before .before .before .before .pre .1) (c .before .before .before .before .option-at .ensures .word-is) (c .before .before .before .before .option-at .ensures .small) (c .before .before .write-unsigned2 .ensures)
+returns-2 c =
+    let a = c .before .before .before .before .before .before .before .before .args in
+    let pre = c .before .before .before .before .before .before .before .before .pre in
+    let option-at = c .before .before .before .before .option-at in
+    let write-unsigned2 = c .before .before .write-unsigned2 in
+    wrote-negative (now (a .out)) (write-unsigned2 .last .1 .0) (pre .1) (option-at .ensures .word-is) (option-at .ensures .small) (write-unsigned2 .ensures)
 
 pub write-word-spec : {M : Type 1} → statement M
 write-word-spec =

@@ -52,20 +52,33 @@ enum-told c = search needs
 
 returns-2 : tie.Need-returns-2
 returns-2 c =
-    let s = c .before .before .before .before .before .before .before .before .args in
-    (cut-wrong (s .limits) (s .least) (now (s .problem)) (passed (c .before .before .before .before .before .before)) (sym (c .enum-told .given .1) ∙ came-to (c .before .before)), λ s e. cannot (cc))
+    let a = c .before .before .before .before .before .before .before .before .args in
+    let d = c .before .before .before .before .before .before in
+    let s = a in
+    (cut-wrong (s .limits) (s .least) (now (s .problem)) (passed d) (sym (c .enum-told .given .1) ∙ came-to (c .before .before)), λ s e. cannot (cc))
 
 returns-3 : tie.Need-returns-3
 returns-3 c =
-    let s = c .before .before .before .before .before .before .before .before .before .before .before .before .args in
-    (cut-many (s .limits) (s .least) (now (s .problem)) (passed (c .before .before .before .before .before .before .before .before .before .before)) (c .before .before .before .before .s .given .0 .0) (sym (c .before .before .before .before .s .given .1) ∙ came-to (c .before .before .before .before .before .before)) (omega arith), λ s e. cannot (cc))
+    let a = c .before .before .before .before .before .before .before .before .before .before .before .before .args in
+    let d = c .before .before .before .before .before .before .before .before .before .before in
+    let d′ = c .before .before .before .before .before .before in
+    let the-s = c .before .before .before .before .s in
+    let s = a in
+    (cut-many (s .limits) (s .least) (now (s .problem)) (passed d) (the-s .given .0 .0) (sym (the-s .given .1) ∙ came-to d′) (omega arith), λ s e. cannot (cc))
 
 returns-4 : tie.Need-returns-4
 returns-4 c =
-    let s = c .before .before .before .before .before .before .before .before .before .before .before .before .args in
+    let a = c .before .before .before .before .before .before .before .before .before .before .before .before .args in
+    let d = c .before .before .before .before .before .before .before .before .before .before in
+    let link-at = c .before .before .before .before .before .before .before .before .before .link-at in
+    let link-at2 = c .before .before .before .before .before .before .before .before .link-at2 in
+    let link-at3 = c .before .before .before .before .before .before .before .link-at3 in
+    let d′ = c .before .before .before .before .before .before in
+    let the-s = c .before .before .before .before .s in
+    let s = a in
     countable (s .limits) (s .least) (now (s .problem)) _
-    (cc (cut-fits (s .limits) (s .least) (now (s .problem)) (passed (c .before .before .before .before .before .before .before .before .before .before)) (c .before .before .before .before .s .given .0 .0) (sym (c .before .before .before .before .s .given .1) ∙ came-to (c .before .before .before .before .before .before)) (omega arith)))
-    (c .before .before .before .before .before .before .before .before .before .link-at .ensures .small) (c .before .before .before .before .before .before .before .before .link-at2 .ensures .small) (c .before .before .before .before .before .before .before .link-at3 .ensures .small)
+    (cc (cut-fits (s .limits) (s .least) (now (s .problem)) (passed d) (the-s .given .0 .0) (sym (the-s .given .1) ∙ came-to d′) (omega arith)))
+    (link-at .ensures .small) (link-at2 .ensures .small) (link-at3 .ensures .small)
     (omega arith)
 
 pub check-spec : {M : Type 1} → statement M

@@ -63,9 +63,12 @@ loop-less c = omega arith
 
 loop-again : tie.Need-loop-again Inv-loop μ-loop
 loop-again c =
-    let s = c .before .before .before .before .before .before .before .args in
+    let a = c .before .before .before .before .before .before .before .args in
+    let loop = c .before .before .before .before .before .before .loop in
+    let k = c .before .before .k in
+    let s = a in
     let (e, t) = met-here (c .before .before) in
-    counting-turn (now (s .ws)) (s .np) (s .m) (c .before .before .before .before .before .before .loop .inv) (c .before .before .k .given .0 .0) (c .before .before .k .given .0 .1 .0) (c .add-option .result) (omega arith) e t (c .add-option .ensures)
+    counting-turn (now (s .ws)) (s .np) (s .m) (loop .inv) (k .given .0 .0) (k .given .0 .1 .0) (c .add-option .result) (omega arith) e t (c .add-option .ensures)
 
 returns-2 : tie.Need-returns-2 Inv-loop μ-loop
 returns-2 c =

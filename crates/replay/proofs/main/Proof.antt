@@ -56,7 +56,10 @@ array-share-prefix-out : tie.Need-array-share-prefix-out
 array-share-prefix-out c = search needs
 
 slice-aggregate-write-all-2 : tie.Need-slice-aggregate-write-all-2
-slice-aggregate-write-all-2 c = front (c .before .before .before .before .before .before .before .before .run .result) (c .before .before .before .before .before .before .before .before .run .last .1 .1 .1 .1 .1 .1 .1 .0) (c .before .before .before .before .before .before .before .before .run .ensures) (c .before .before .before .before .before .before .before .before .run .kept .1 .1 .1 .1 .1 .1 .1 .0 ∙ sym (c .before .before .before .before .before .before .before .before .before .before .before .before .before .before .before .before .before .large-buffer .ensures))
+slice-aggregate-write-all-2 c =
+    let large-buffer = c .before .before .before .before .before .before .before .before .before .before .before .before .before .before .before .before .before .large-buffer in
+    let run = c .before .before .before .before .before .before .before .before .run in
+    front (run .result) (run .last .1 .1 .1 .1 .1 .1 .1 .0) (run .ensures) (run .kept .1 .1 .1 .1 .1 .1 .1 .0 ∙ sym (large-buffer .ensures))
 
 write-all-requires-2 : tie.Need-write-all-requires-2
 write-all-requires-2 c κs = search needs

@@ -10,37 +10,55 @@ use Rattle.replay.proofs.on_lent.Lts as lts
 use Rattle.replay.proofs.commands.run.Reads as run-reads
 
 slice-aggregate-run : tie.Need-slice-aggregate-run
-slice-aggregate-run c = front (c .before .before .before .before .before .args .held .lengths .problem) (now (c .before .before .before .before .before .args .problem)) (c .before .before .before .before .before .pre .1 .lengths .problem) (c .before .before .before .before .before .pre .0 .problem)
+slice-aggregate-run c =
+    let a = c .before .before .before .before .before .args in
+    let pre = c .before .before .before .before .before .pre in
+    front (a .held .lengths .problem) (now (a .problem)) (pre .1 .lengths .problem) (pre .0 .problem)
 
 slice-relend-prefix-run : tie.Need-slice-relend-prefix-run
 slice-relend-prefix-run c = search needs
 
 slice-aggregate-run-2 : tie.Need-slice-aggregate-run-2
-slice-aggregate-run-2 c = front (c .before .before .before .before .before .before .args .held .lengths .table) (now (c .before .before .before .before .before .before .args .table)) (c .before .before .before .before .before .before .pre .1 .lengths .table) (c .before .before .before .before .before .before .pre .0 .table)
+slice-aggregate-run-2 c =
+    let a = c .before .before .before .before .before .before .args in
+    let pre = c .before .before .before .before .before .before .pre in
+    front (a .held .lengths .table) (now (a .table)) (pre .1 .lengths .table) (pre .0 .table)
 
 slice-relend-prefix-run-2 : tie.Need-slice-relend-prefix-run-2
 slice-relend-prefix-run-2 c = search needs
 
 slice-aggregate-run-3 : tie.Need-slice-aggregate-run-3
-slice-aggregate-run-3 c = front (c .before .before .before .before .before .before .before .args .held .lengths .spare) (now (c .before .before .before .before .before .before .before .args .spare)) (c .before .before .before .before .before .before .before .pre .1 .lengths .spare) (c .before .before .before .before .before .before .before .pre .0 .spare)
+slice-aggregate-run-3 c =
+    let a = c .before .before .before .before .before .before .before .args in
+    let pre = c .before .before .before .before .before .before .before .pre in
+    front (a .held .lengths .spare) (now (a .spare)) (pre .1 .lengths .spare) (pre .0 .spare)
 
 slice-relend-prefix-run-3 : tie.Need-slice-relend-prefix-run-3
 slice-relend-prefix-run-3 c = search needs
 
 slice-aggregate-run-4 : tie.Need-slice-aggregate-run-4
-slice-aggregate-run-4 c = front (c .before .before .before .before .before .before .before .before .args .held .lengths .path) (now (c .before .before .before .before .before .before .before .before .args .path)) (c .before .before .before .before .before .before .before .before .pre .1 .lengths .path) (c .before .before .before .before .before .before .before .before .pre .0 .path)
+slice-aggregate-run-4 c =
+    let a = c .before .before .before .before .before .before .before .before .args in
+    let pre = c .before .before .before .before .before .before .before .before .pre in
+    front (a .held .lengths .path) (now (a .path)) (pre .1 .lengths .path) (pre .0 .path)
 
 slice-relend-prefix-run-4 : tie.Need-slice-relend-prefix-run-4
 slice-relend-prefix-run-4 c = search needs
 
 slice-aggregate-run-5 : tie.Need-slice-aggregate-run-5
-slice-aggregate-run-5 c = front (c .before .before .before .before .before .before .before .before .before .args .held .lengths .profile) (now (c .before .before .before .before .before .before .before .before .before .args .profile)) (c .before .before .before .before .before .before .before .before .before .pre .1 .lengths .profile) (c .before .before .before .before .before .before .before .before .before .pre .0 .profile)
+slice-aggregate-run-5 c =
+    let a = c .before .before .before .before .before .before .before .before .before .args in
+    let pre = c .before .before .before .before .before .before .before .before .before .pre in
+    front (a .held .lengths .profile) (now (a .profile)) (pre .1 .lengths .profile) (pre .0 .profile)
 
 slice-relend-prefix-run-5 : tie.Need-slice-relend-prefix-run-5
 slice-relend-prefix-run-5 c = search needs
 
 slice-aggregate-run-6 : tie.Need-slice-aggregate-run-6
-slice-aggregate-run-6 c = front (c .before .before .before .before .before .before .before .before .before .before .args .held .lengths .found) (now (c .before .before .before .before .before .before .before .before .before .before .args .found)) (c .before .before .before .before .before .before .before .before .before .before .pre .1 .lengths .found) (c .before .before .before .before .before .before .before .before .before .before .pre .0 .found)
+slice-aggregate-run-6 c =
+    let a = c .before .before .before .before .before .before .before .before .before .before .args in
+    let pre = c .before .before .before .before .before .before .before .before .before .before .pre in
+    front (a .held .lengths .found) (now (a .found)) (pre .1 .lengths .found) (pre .0 .found)
 
 run-requires : tie.Need-run-requires
 run-requires c κs = search needs
@@ -91,10 +109,13 @@ same-length-12 : tie.Need-same-length-12
 same-length-12 c = search needs
 
 returns-2 : tie.Need-returns-2
-returns-2 c = let b = done-within (c .before .before .before .before .before .before .before .before .before .before .before .run .ensures) (c .before .state .given .1) in
-    let k = c .before .before .before .before .before .before .before .before .before .before .before .run .kept .1 .1 .1 .1 .1 .1 .1 .1 .0 in
-    let l = c .before .before .before .before .before .before .before .before .before .before .before .before .before .before .before .before .before .before .before .before .before .before .before .pre .0 .out in
-    record { lengths = c .before .before .before .before .before .before .before .before .before .before .before .before .before .before .before .before .before .before .before .before .before .before .before .pre .1 .lengths; used = omega (arith, b .within) }
+returns-2 c =
+    let pre = c .before .before .before .before .before .before .before .before .before .before .before .before .before .before .before .before .before .before .before .before .before .before .before .pre in
+    let run = c .before .before .before .before .before .before .before .before .before .before .before .run in
+    let b = done-within (run .ensures) (c .before .state .given .1) in
+    let k = run .kept .1 .1 .1 .1 .1 .1 .1 .1 .0 in
+    let l = pre .0 .out in
+    record { lengths = pre .1 .lengths; used = omega (arith, b .within) }
 
 pub on-lent-spec : {M : Type 1} → statement M
 on-lent-spec =

@@ -34,7 +34,11 @@ same-length-5 : tie.Need-same-length-5
 same-length-5 c = search needs
 
 returns-2 : tie.Need-returns-2
-returns-2 c = record { lengths = lengths-within (c .before .before .before .before .before .before .before .before .before .before .before .before .before .before .before .read-lengths .ensures) (c .before .before .before .before .before .before .before .before .before .before .before .before .before .lengths .given .1); used = c .before .before .before .before .before .before .before .before .before .before .before .before .before .before .before .before .before .before .before .pre .used }
+returns-2 c =
+    let pre = c .before .before .before .before .before .before .before .before .before .before .before .before .before .before .before .before .before .before .before .pre in
+    let read-lengths = c .before .before .before .before .before .before .before .before .before .before .before .before .before .before .before .read-lengths in
+    let the-lengths = c .before .before .before .before .before .before .before .before .before .before .before .before .before .lengths in
+    record { lengths = lengths-within (read-lengths .ensures) (the-lengths .given .1); used = pre .used }
 
 pub take-lengths-spec : {M : Type 1} → statement M
 take-lengths-spec =

@@ -37,7 +37,11 @@ within-requires-2 c κs = tt
 
 returns-2 : tie.Need-returns-2 Inv-loop μ-loop
 unfolding counts-fit
-returns-2 c = and-second (leb (c .before .before .before .before .before .before .before .before .args .state .updates) cap) (each-stop (λ (c : ℕ). leb c cap) (c .before .before .before .before .before .before .before .before .args .profile .now) (c .before .before .before .before .loop .k) 0 (c .before .before .before .loop-test .taken) (fails (c .before .within2 .ensures) (c .if2 .taken)) (c .before .before .before .before .loop .inv .1))
+returns-2 c =
+    let a = c .before .before .before .before .before .before .before .before .args in
+    let loop = c .before .before .before .before .loop in
+    let loop-test = c .before .before .before .loop-test in
+    and-second (leb (a .state .updates) cap) (each-stop (λ (c : ℕ). leb c cap) (a .profile .now) (loop .k) 0 (loop-test .taken) (fails (c .before .within2 .ensures) (c .if2 .taken)) (loop .inv .1))
 
 add-k : tie.Need-add-k Inv-loop μ-loop
 add-k c = search needs
@@ -46,7 +50,11 @@ loop-less : tie.Need-loop-less Inv-loop μ-loop
 loop-less c = search needs
 
 loop-again : tie.Need-loop-again Inv-loop μ-loop
-loop-again c = (search needs, each-next (λ (c : ℕ). leb c cap) (c .before .before .before .before .before .before .before .before .args .profile .now) (c .before .before .before .before .loop .k) 0 (c .before .before .before .loop-test .taken) (holds (c .before .within2 .ensures) (c .if2 .left)) (c .before .before .before .before .loop .inv .1))
+loop-again c =
+    let a = c .before .before .before .before .before .before .before .before .args in
+    let loop = c .before .before .before .before .loop in
+    let loop-test = c .before .before .before .loop-test in
+    (search needs, each-next (λ (c : ℕ). leb c cap) (a .profile .now) (loop .k) 0 (loop-test .taken) (holds (c .before .within2 .ensures) (c .if2 .left)) (loop .inv .1))
 
 returns-3 : tie.Need-returns-3 Inv-loop μ-loop
 unfolding counts-fit

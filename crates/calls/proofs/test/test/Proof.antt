@@ -24,13 +24,27 @@ enum-known-v-2 : tie.Need-enum-known-v-2
 enum-known-v-2 c = search needs
 
 test-point-of-requires : tie.Need-test-point-of-requires
-test-point-of-requires c κs = let L = laid (c .before .before .before .before .before .before .before .before .before .before .before .before .before .args .problem .now) (c .before .before .before .before .before .before .before .before .before .before .before .before .before .args .table .now) (c .before .before .before .before .before .before .before .before .before .before .before .before .before .args .spare .now) (c .before .before .before .before .before .before .before .before .before .before .before .before .before .args .path .now) (c .before .before .before .before .before .before .before .before .before .before .before .before .before .args .more) _ (words-accepted (c .before .before .before .before .before .before .before .before .before .before .before .before .before .args .problem .now) (c .before .before .before .before .before .before .before .before .before .before .before .before .before .args .table .now) (c .before .before .before .before .before .before .before .before .before .before .before .before .before .args .spare .now) (c .before .before .before .before .before .before .before .before .before .before .before .before .before .args .path .now) (c .before .before .before .before .before .before .before .before .before .before .before .before .before .args .profile .now) (c .before .before .before .before .before .before .before .before .before .before .before .before .before .args .more) (c .before .before .before .before .before .before .before .before .before .before .before .before .before .args .state) (accept-is (c .before .before .before .before .before .before .before .before .before .before .before .before .before .args .problem .now) (c .before .before .before .before .before .before .before .before .before .before .before .before .before .args .table .now) (c .before .before .before .before .before .before .before .before .before .before .before .before .before .args .spare .now) (c .before .before .before .before .before .before .before .before .before .before .before .before .before .args .path .now) (c .before .before .before .before .before .before .before .before .before .before .before .before .before .args .profile .now) (c .before .before .before .before .before .before .before .before .before .before .before .before .before .args .more) (c .before .before .before .before .before .before .before .before .before .before .before .before .before .args .state) (c .before .before .before .before .before .before .before .before .library .ensures) (c .before .before .before .before .before .before .before .before .before .before .shorter .ensures) (c .before .before .before .before .before .before .before .before .before .shorter2 .ensures) _ (c .before .before .before .before .before .before .accept .ensures) (c .before .before .before .before .before .before .before .before .before .before .before .before .before .pre)) (c .before .before .v2 .given .1)) in (L .0, L .1)
+test-point-of-requires c κs =
+    let a = c .before .before .before .before .before .before .before .before .before .before .before .before .before .args in
+    let pre = c .before .before .before .before .before .before .before .before .before .before .before .before .before .pre in
+    let shorter = c .before .before .before .before .before .before .before .before .before .before .shorter in
+    let shorter2 = c .before .before .before .before .before .before .before .before .before .shorter2 in
+    let library = c .before .before .before .before .before .before .before .before .library in
+    let accept = c .before .before .before .before .before .before .accept in
+    let L = laid (a .problem .now) (a .table .now) (a .spare .now) (a .path .now) (a .more) _ (words-accepted (a .problem .now) (a .table .now) (a .spare .now) (a .path .now) (a .profile .now) (a .more) (a .state) (accept-is (a .problem .now) (a .table .now) (a .spare .now) (a .path .now) (a .profile .now) (a .more) (a .state) (library .ensures) (shorter .ensures) (shorter2 .ensures) _ (accept .ensures) (pre)) (c .before .before .v2 .given .1)) in (L .0, L .1)
 
 same-length : tie.Need-same-length
 same-length c = search needs
 
 returns : tie.Need-returns
-returns c = refused-first (c .before .before .before .before .before .before .before .before .before .before .before .before .args .problem .now) (c .before .before .before .before .before .before .before .before .before .before .before .before .args .table .now) (c .before .before .before .before .before .before .before .before .before .before .before .before .args .spare .now) (c .before .before .before .before .before .before .before .before .before .before .before .before .args .path .now) (c .before .before .before .before .before .before .before .before .before .before .before .before .args .profile .now) (c .before .before .before .before .before .before .before .before .before .before .before .before .args .more) (c .before .before .before .before .before .before .before .before .before .before .before .before .args .state) (Refused (c .before .v .given .0 .0)) (sym (c .before .v .given .1) ∙ accept-is (c .before .before .before .before .before .before .before .before .before .before .before .before .args .problem .now) (c .before .before .before .before .before .before .before .before .before .before .before .before .args .table .now) (c .before .before .before .before .before .before .before .before .before .before .before .before .args .spare .now) (c .before .before .before .before .before .before .before .before .before .before .before .before .args .path .now) (c .before .before .before .before .before .before .before .before .before .before .before .before .args .profile .now) (c .before .before .before .before .before .before .before .before .before .before .before .before .args .more) (c .before .before .before .before .before .before .before .before .before .before .before .before .args .state) (c .before .before .before .before .before .before .before .library .ensures) (c .before .before .before .before .before .before .before .before .before .shorter .ensures) (c .before .before .before .before .before .before .before .before .shorter2 .ensures) _ (c .before .before .before .before .before .accept .ensures) (c .before .before .before .before .before .before .before .before .before .before .before .before .pre)) refl
+returns c =
+    let a = c .before .before .before .before .before .before .before .before .before .before .before .before .args in
+    let pre = c .before .before .before .before .before .before .before .before .before .before .before .before .pre in
+    let shorter = c .before .before .before .before .before .before .before .before .before .shorter in
+    let shorter2 = c .before .before .before .before .before .before .before .before .shorter2 in
+    let library = c .before .before .before .before .before .before .before .library in
+    let accept = c .before .before .before .before .before .accept in
+    refused-first (a .problem .now) (a .table .now) (a .spare .now) (a .path .now) (a .profile .now) (a .more) (a .state) (Refused (c .before .v .given .0 .0)) (sym (c .before .v .given .1) ∙ accept-is (a .problem .now) (a .table .now) (a .spare .now) (a .path .now) (a .profile .now) (a .more) (a .state) (library .ensures) (shorter .ensures) (shorter2 .ensures) _ (accept .ensures) (pre)) refl
 
 same-length-2 : tie.Need-same-length-2
 same-length-2 c = search needs
@@ -39,7 +53,15 @@ same-length-3 : tie.Need-same-length-3
 same-length-3 c = search needs
 
 returns-2 : tie.Need-returns-2
-returns-2 c = then-pointed (c .before .before .before .before .before .before .before .before .before .before .before .before .before .before .before .args .problem .now) (c .before .before .before .before .before .before .before .before .before .before .before .before .before .before .before .args .table .now) (c .before .before .before .before .before .before .before .before .before .before .before .before .before .before .before .args .spare .now) (c .before .before .before .before .before .before .before .before .before .before .before .before .before .before .before .args .path .now) (c .before .before .before .before .before .before .before .before .before .before .before .before .before .before .before .args .profile .now) (c .before .before .before .before .before .before .before .before .before .before .before .before .before .before .before .args .more) (c .before .before .before .before .before .before .before .before .before .before .before .before .before .before .before .args .state) (accept-is (c .before .before .before .before .before .before .before .before .before .before .before .before .before .before .before .args .problem .now) (c .before .before .before .before .before .before .before .before .before .before .before .before .before .before .before .args .table .now) (c .before .before .before .before .before .before .before .before .before .before .before .before .before .before .before .args .spare .now) (c .before .before .before .before .before .before .before .before .before .before .before .before .before .before .before .args .path .now) (c .before .before .before .before .before .before .before .before .before .before .before .before .before .before .before .args .profile .now) (c .before .before .before .before .before .before .before .before .before .before .before .before .before .before .before .args .more) (c .before .before .before .before .before .before .before .before .before .before .before .before .before .before .before .args .state) (c .before .before .before .before .before .before .before .before .before .before .library .ensures) (c .before .before .before .before .before .before .before .before .before .before .before .before .shorter .ensures) (c .before .before .before .before .before .before .before .before .before .before .before .shorter2 .ensures) _ (c .before .before .before .before .before .before .before .before .accept .ensures) (c .before .before .before .before .before .before .before .before .before .before .before .before .before .before .before .pre)) (c .before .before .before .before .v2 .given .1) (c .before .test-point-of .ensures)
+returns-2 c =
+    let a = c .before .before .before .before .before .before .before .before .before .before .before .before .before .before .before .args in
+    let pre = c .before .before .before .before .before .before .before .before .before .before .before .before .before .before .before .pre in
+    let shorter = c .before .before .before .before .before .before .before .before .before .before .before .before .shorter in
+    let shorter2 = c .before .before .before .before .before .before .before .before .before .before .before .shorter2 in
+    let library = c .before .before .before .before .before .before .before .before .before .before .library in
+    let accept = c .before .before .before .before .before .before .before .before .accept in
+    let v2 = c .before .before .before .before .v2 in
+    then-pointed (a .problem .now) (a .table .now) (a .spare .now) (a .path .now) (a .profile .now) (a .more) (a .state) (accept-is (a .problem .now) (a .table .now) (a .spare .now) (a .path .now) (a .profile .now) (a .more) (a .state) (library .ensures) (shorter .ensures) (shorter2 .ensures) _ (accept .ensures) (pre)) (v2 .given .1) (c .before .test-point-of .ensures)
 
 pub test-spec : {M : Type 1} → statement M
 test-spec =

@@ -34,20 +34,29 @@ slice-relend-prefix-fresh-point : tie.Need-slice-relend-prefix-fresh-point
 slice-relend-prefix-fresh-point c = search needs
 
 slice-aggregate-fresh-point-2 : tie.Need-slice-aggregate-fresh-point-2
-slice-aggregate-fresh-point-2 c = sym (length-take-le _ _ (let h : c .before .before .table-words .result ≤ length (c .before .before .before .before .before .before .before .before .args .spare .now) = omega (arith, c .before .before .table-words .ensures, c .before .before .before .before .before .before .before .before .pre .1) in h))
+slice-aggregate-fresh-point-2 c =
+    let a = c .before .before .before .before .before .before .before .before .args in
+    let pre = c .before .before .before .before .before .before .before .before .pre in
+    let table-words = c .before .before .table-words in
+    sym (length-take-le _ _ (let h : table-words .result ≤ length (a .spare .now) = omega (arith, table-words .ensures, pre .1) in h))
 
 slice-aggregate-fresh-point-3 : tie.Need-slice-aggregate-fresh-point-3
-slice-aggregate-fresh-point-3 c = sym (length-take-le _ _ (let h : c .before .before .before .before .before .before .before .before .before .args .s .np ≤ length (c .before .before .before .before .before .before .before .before .before .args .path .now) = omega (arith, c .before .before .before .before .before .before .before .before .before .pre .0 .path-room) in h))
+slice-aggregate-fresh-point-3 c =
+    let a = c .before .before .before .before .before .before .before .before .before .args in
+    let pre = c .before .before .before .before .before .before .before .before .before .pre in
+    sym (length-take-le _ _ (let h : a .s .np ≤ length (a .path .now) = omega (arith, pre .0 .path-room) in h))
 
 fresh-point-requires : tie.Need-fresh-point-requires
 fresh-point-requires c κs =
-    let L = c .before .before .before .before .before .before .before .before .before .pre .0 in
+    let pre = c .before .before .before .before .before .before .before .before .before .pre in
+    let table-words = c .before .before .before .table-words in
+    let L = pre .0 in
     record {
       measured = L .measured;
       faultless = L .faultless;
       small = L .small;
-      t-long = sym (slice-aggregate-fresh-point (c .before .before)) ∙ c .before .before .before .table-words .ensures;
-      spare-long = sym (slice-aggregate-fresh-point-2 (c .before)) ∙ c .before .before .before .table-words .ensures;
+      t-long = sym (slice-aggregate-fresh-point (c .before .before)) ∙ table-words .ensures;
+      spare-long = sym (slice-aggregate-fresh-point-2 (c .before)) ∙ table-words .ensures;
       path-long = sym (slice-aggregate-fresh-point-3 c);
     }
 
@@ -56,11 +65,17 @@ same-length c = search needs
 
 returns-2 : tie.Need-returns-2
 returns-2 c =
-    let a = c .before .before .before .before .before .before .before .before .before .before .before .before .args in
-    let L = c .before .before .before .before .before .before .before .before .before .before .before .before .pre .0 in
+    let the-a = c .before .before .before .before .before .before .before .before .before .before .before .before .args in
+    let pre = c .before .before .before .before .before .before .before .before .before .before .before .before .pre in
+    let shorter = c .before .before .before .before .before .before .before .before .before .before .shorter in
+    let counts-fit = c .before .before .before .before .before .before .before .before .counts-fit in
+    let if1 = c .before .before .before .before .before .before .before .if1 in
+    let table-words = c .before .before .before .before .before .before .table-words in
+    let a = the-a in
+    let L = pre .0 in
     let p = c .before .before .fresh-point .ensures in
-    let w = c .before .before .before .before .before .before .table-words .ensures in
-    let fit = sym (counts-are _ (a .s) (L .measured) (a .state) (a .profile .now) _ (c .before .before .before .before .before .before .before .before .before .before .shorter .ensures) (c .before .before .before .before .before .before .before .before .counts-fit .ensures)) ∙ not-false _ (c .before .before .before .before .before .before .before .if1 .left) in
+    let w = table-words .ensures in
+    let fit = sym (counts-are _ (a .s) (L .measured) (a .state) (a .profile .now) _ (shorter .ensures) (counts-fit .ensures)) ∙ not-false _ (if1 .left) in
     at-10 _ _ _ _ _ (a .s) (a .state) fit (fresh-over _ (a .s) (L .measured) (L .faultless) (a .spare .now) _ _ w (p .1))
     (sym (point-is _ (a .s) (L .measured) (a .state) (a .table .now) (a .path .now) _ w (p .0)) ∙ not-true _ (c .if2 .taken))
 
@@ -69,11 +84,17 @@ same-length-2 c = search needs
 
 returns-3 : tie.Need-returns-3
 returns-3 c =
-    let a = c .before .before .before .before .before .before .before .before .before .before .before .before .args in
-    let L = c .before .before .before .before .before .before .before .before .before .before .before .before .pre .0 in
+    let the-a = c .before .before .before .before .before .before .before .before .before .before .before .before .args in
+    let pre = c .before .before .before .before .before .before .before .before .before .before .before .before .pre in
+    let shorter = c .before .before .before .before .before .before .before .before .before .before .shorter in
+    let counts-fit = c .before .before .before .before .before .before .before .before .counts-fit in
+    let if1 = c .before .before .before .before .before .before .before .if1 in
+    let table-words = c .before .before .before .before .before .before .table-words in
+    let a = the-a in
+    let L = pre .0 in
     let p = c .before .before .fresh-point .ensures in
-    let w = c .before .before .before .before .before .before .table-words .ensures in
-    let fit = sym (counts-are _ (a .s) (L .measured) (a .state) (a .profile .now) _ (c .before .before .before .before .before .before .before .before .before .before .shorter .ensures) (c .before .before .before .before .before .before .before .before .counts-fit .ensures)) ∙ not-false _ (c .before .before .before .before .before .before .before .if1 .left) in
+    let w = table-words .ensures in
+    let fit = sym (counts-are _ (a .s) (L .measured) (a .state) (a .profile .now) _ (shorter .ensures) (counts-fit .ensures)) ∙ not-false _ (if1 .left) in
     at-0 _ _ _ _ _ (a .s) (a .state) fit (fresh-over _ (a .s) (L .measured) (L .faultless) (a .spare .now) _ _ w (p .1))
     (sym (point-is _ (a .s) (L .measured) (a .state) (a .table .now) (a .path .now) _ w (p .0)) ∙ not-false _ (c .if2 .left))
 

@@ -52,8 +52,11 @@ loop-less c = omega arith
 
 loop-again : tie.Need-loop-again Inv-loop μ-loop
 loop-again c =
-    let l = c .before .before .before .before .before .before .before .loop in
-    (omega arith, search needs, row-made (l .t) (l .i) (l .inv .2) (omega (arith, l .inv .1, c .before .before .before .before .before .before .before .before .pre)) (c .before .before .before .before .put-link .ensures) (c .before .put-link2 .ensures))
+    let pre = c .before .before .before .before .before .before .before .before .pre in
+    let loop = c .before .before .before .before .before .before .before .loop in
+    let put-link = c .before .before .before .before .put-link in
+    let l = loop in
+    (omega arith, search needs, row-made (l .t) (l .i) (l .inv .2) (omega (arith, l .inv .1, pre)) (put-link .ensures) (c .before .put-link2 .ensures))
 
 add-put-link-4 : tie.Need-add-put-link-4 Inv-loop μ-loop
 add-put-link-4 c = omega arith
@@ -99,10 +102,16 @@ same-length c = search needs
 
 returns : tie.Need-returns Inv-loop μ-loop
 returns c =
-    let l = c .before .before .before .before .before .before .before .before .before .before .before .before .before .loop in
-    let s = c .before .before .before .before .before .before .before .before .before .before .before .before .before .before in
-    rings-made (s .args .np) (s .args .ns) (l .t) (omega (arith, l .inv .1, s .pre)) (λ j h. l .inv .2 j (omega (arith, c .before .before .before .before .before .before .before .before .before .before .before .before .loop-test .left)))
-    (c .before .before .before .before .before .before .before .before .before .before .put-link3 .ensures) (c .before .before .before .before .before .before .before .put-link4 .ensures) (c .before .before .before .before .put-link5 .ensures) (c .before .put-link6 .ensures)
+    let d = c .before .before .before .before .before .before .before .before .before .before .before .before .before .before in
+    let loop = c .before .before .before .before .before .before .before .before .before .before .before .before .before .loop in
+    let loop-test = c .before .before .before .before .before .before .before .before .before .before .before .before .loop-test in
+    let put-link3 = c .before .before .before .before .before .before .before .before .before .before .put-link3 in
+    let put-link4 = c .before .before .before .before .before .before .before .put-link4 in
+    let put-link5 = c .before .before .before .before .put-link5 in
+    let l = loop in
+    let s = d in
+    rings-made (s .args .np) (s .args .ns) (l .t) (omega (arith, l .inv .1, s .pre)) (λ j h. l .inv .2 j (omega (arith, loop-test .left)))
+    (put-link3 .ensures) (put-link4 .ensures) (put-link5 .ensures) (c .before .put-link6 .ensures)
 
 pub init-links-spec : {M : Type 1} → statement M
 init-links-spec =

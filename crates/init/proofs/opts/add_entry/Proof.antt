@@ -79,11 +79,15 @@ add-raise-at c = omega arith
 
 raise-at-requires : tie.Need-raise-at-requires
 raise-at-requires c κs =
-    let s = c .before .before .before .before .before .before .before .before .before .before .before .before in
-    let u = c .before .before .before .before .before .before .before .before .before .before .link-at in (
+    let d = c .before .before .before .before .before .before .before .before .before .before .before .before in
+    let link-at = c .before .before .before .before .before .before .before .before .before .before .link-at in
+    let put-node = c .before .before .before .before .before .before .before .before .put-node in
+    let put-link = c .before .before .before .before .before .put-link in
+    let s = d in
+    let u = link-at in (
       omega arith,
       can-rise (s .args .n) (now (s .args .t)) (s .args .q) (entry s) (s .args .item + 1) (u .result) (add-one (s .args .item)) (u .ensures .is)
-          (c .before .before .before .before .before .before .before .before .put-node .ensures) (c .before .before .before .before .before .put-link .ensures) (c .before .before .put-link2 .ensures)
+          (put-node .ensures) (put-link .ensures) (c .before .before .put-link2 .ensures)
           (s .pre .1 .1) (omega arith) (s .pre .0) (omega arith),
     )
 
@@ -92,10 +96,15 @@ same-length c = search needs
 
 returns : tie.Need-returns
 returns c =
-    let s = c .before .before .before .before .before .before .before .before .before .before .before .before .before .before in
-    let u = c .before .before .before .before .before .before .before .before .before .before .before .before .link-at in
+    let d = c .before .before .before .before .before .before .before .before .before .before .before .before .before .before in
+    let link-at = c .before .before .before .before .before .before .before .before .before .before .before .before .link-at in
+    let put-node = c .before .before .before .before .before .before .before .before .before .before .put-node in
+    let put-link = c .before .before .before .before .before .before .before .put-link in
+    let put-link2 = c .before .before .before .before .put-link2 in
+    let s = d in
+    let u = link-at in
     add-made (s .args .n) (now (s .args .t)) (s .args .q) (entry s) (s .args .item + 1) (u .result) (add-one (s .args .item)) (u .ensures .is)
-    (c .before .before .before .before .before .before .before .before .before .before .put-node .ensures) (c .before .before .before .before .before .before .before .put-link .ensures) (c .before .before .before .before .put-link2 .ensures) (c .before .raise-at .ensures)
+    (put-node .ensures) (put-link .ensures) (put-link2 .ensures) (c .before .raise-at .ensures)
 
 pub add-entry-spec : {M : Type 1} → statement M
 add-entry-spec =

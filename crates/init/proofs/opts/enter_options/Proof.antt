@@ -57,8 +57,11 @@ same-length c = search needs
 
 returns : tie.Need-returns Inv-loop μ-loop
 returns c =
-    let s = c .before .before .before .before .before .before in
-    absurd (entering-there (s .pre .0) (s .pre .1 .0) (c .before .before .before .before .loop .inv) (c .before .before .before .loop-test .taken) (met-missing _ _ (sym (c .enum-told .given .1) ∙ c .before .before .read-option .ensures)))
+    let d = c .before .before .before .before .before .before in
+    let loop = c .before .before .before .before .loop in
+    let loop-test = c .before .before .before .loop-test in
+    let s = d in
+    absurd (entering-there (s .pre .0) (s .pre .1 .0) (loop .inv) (loop-test .taken) (met-missing _ _ (sym (c .enum-told .given .1) ∙ c .before .before .read-option .ensures)))
 
 add-append-option : tie.Need-add-append-option Inv-loop μ-loop
 add-append-option c = omega (arith, appends (c .before .before) .there)

@@ -46,9 +46,12 @@ first-of-requires c κs = search needs
 
 returns-2 : tie.Need-returns-2
 returns-2 c =
-    let s = c .before .before .before .before .before .before .before .args in
-    let x = c .before .before .before .link-at .result in
-    λ seen M. in-range (now (s .ws)) (s .p) (s .np) (s .n) seen x (c .before .before .before .link-at .ensures .word-is) (passed (c .before .before .before)) (M .are x (low (c .before .before .before))) (c .before .before .repeat-fault .ensures) (c .before .colour-fault .ensures) (c .first-of .ensures)
+    let a = c .before .before .before .before .before .before .before .args in
+    let link-at = c .before .before .before .link-at in
+    let d = c .before .before .before in
+    let s = a in
+    let x = link-at .result in
+    λ seen M. in-range (now (s .ws)) (s .p) (s .np) (s .n) seen x (link-at .ensures .word-is) (passed d) (M .are x (low d)) (c .before .before .repeat-fault .ensures) (c .before .colour-fault .ensures) (c .first-of .ensures)
 
 pub entry-fault-spec : {M : Type 1} → statement M
 entry-fault-spec =

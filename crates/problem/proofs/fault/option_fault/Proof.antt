@@ -20,12 +20,18 @@ abbrev μ-loop : tie.MeasureT-loop
 μ-loop ws p k np n marks₀ stamp q₀ left₀ marks q left = left
 
 -- the fault of the turn's entry
-found : (c : tie.After-entry-fault Inv-loop μ-loop) → c .entry-fault .result ≡ entry-fault (c .before .before .before .before .before .args .np) (c .before .before .before .before .before .args .n) (c .before .before .before .loop .inv .seen) (pair-at (now (c .before .before .before .before .before .args .ws)) (c .before .before .before .loop .q))
+found : (c : tie.After-entry-fault Inv-loop μ-loop)
+    → let a = c .before .before .before .before .before .args in
+    let loop = c .before .before .before .loop in
+    c .entry-fault .result ≡ entry-fault (a .np) (a .n) (loop .inv .seen) (pair-at (now (a .ws)) (loop .q))
 found c = c .entry-fault .ensures (c .before .before .before .loop .inv .seen) (c .before .before .before .loop .inv .marked)
 
 -- where there is none, its item is in range
 in-range : (c : tie.Else1 Inv-loop μ-loop) → T (below (c .before .before .before .before .before .before .args .n) (word (now (c .before .before .before .before .before .before .args .ws)) (c .before .before .before .before .loop .q)))
-in-range c = item-below (c .before .before .before .before .before .before .args .np) (c .before .before .before .before .before .before .args .n) (c .before .before .before .before .loop .inv .seen) (pair-at (now (c .before .before .before .before .before .before .args .ws)) (c .before .before .before .before .loop .q)) (sym (c .if1 .left) ∙ found (c .before))
+in-range c =
+    let a = c .before .before .before .before .before .before .args in
+    let loop = c .before .before .before .before .loop in
+    item-below (a .np) (a .n) (loop .inv .seen) (pair-at (now (a .ws)) (loop .q)) (sym (c .if1 .left) ∙ found (c .before))
 
 in-marks : (c : tie.After-link-at Inv-loop μ-loop) → c .link-at .result < length (c .before .before .before .before .before .loop .marks)
 in-marks c =
@@ -70,8 +76,10 @@ loop-less c = omega arith
 
 loop-again : tie.Need-loop-again Inv-loop μ-loop
 loop-again c =
-    let s = c .before .before .before .before .before .before .before .args in
-    passing-turn (now (s .ws)) (s .p) (s .k) (s .np) (s .n) (now (s .marks)) (s .stamp) (c .before .before .before .before .before .loop .inv) (c .before .before .entry-fault .result) (omega arith) (found (c .before .before)) (c .before .if1 .left) (c .link-at .result) (c .link-at .ensures .word-is) (in-marks c)
+    let a = c .before .before .before .before .before .before .before .args in
+    let loop = c .before .before .before .before .before .loop in
+    let s = a in
+    passing-turn (now (s .ws)) (s .p) (s .k) (s .np) (s .n) (now (s .marks)) (s .stamp) (loop .inv) (c .before .before .entry-fault .result) (omega arith) (found (c .before .before)) (c .before .if1 .left) (c .link-at .result) (c .link-at .ensures .word-is) (in-marks c)
 
 same-length-2 : tie.Need-same-length-2 Inv-loop μ-loop
 same-length-2 c = c .before .loop .inv .size

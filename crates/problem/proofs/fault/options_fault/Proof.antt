@@ -38,8 +38,12 @@ same-length c = search needs
 
 returns : tie.Need-returns Inv-loop μ-loop
 returns c =
-    let s = c .before .before .before .before .before .before .before .before .before .args in
-    searching-stop (now (s .ws)) (s .m) (s .np) (s .n) (now (s .marks)) (c .before .before .before .before .before .before .before .loop .inv) (this (c .before .before .before .before .before)) (c .before .before .before .option-fault .result) (c .before .before .before .option-fault .ensures .0) (c .if1 .taken)
+    let a = c .before .before .before .before .before .before .before .before .before .args in
+    let loop = c .before .before .before .before .before .before .before .loop in
+    let d = c .before .before .before .before .before in
+    let option-fault = c .before .before .before .option-fault in
+    let s = a in
+    searching-stop (now (s .ws)) (s .m) (s .np) (s .n) (now (s .marks)) (loop .inv) (this d) (option-fault .result) (option-fault .ensures .0) (c .if1 .taken)
 
 mul-at : tie.Need-mul-at Inv-loop μ-loop
 mul-at c = let t = this (c .before .before .before .before .before) in omega arith
@@ -58,8 +62,12 @@ loop-less c = omega arith
 
 loop-again : tie.Need-loop-again Inv-loop μ-loop
 loop-again c =
-    let s = c .before .before .before .before .before .before .before .before .before .args in
-    searching-turn (now (s .ws)) (s .m) (s .np) (s .n) (now (s .marks)) (c .before .before .before .before .before .before .before .loop .inv) (this (c .before .before .before .before .before)) (c .before .before .before .option-fault .result) (c .before .before .before .option-fault .ensures .0) (c .if1 .left) (c .before .before .before .option-fault .last .1 .1 .1 .1 .1 .0) (c .before .before .before .option-fault .kept .1 .1 .1 .1 .1 .0) (c .before .before .before .option-fault .ensures .1)
+    let a = c .before .before .before .before .before .before .before .before .before .args in
+    let loop = c .before .before .before .before .before .before .before .loop in
+    let d = c .before .before .before .before .before in
+    let option-fault = c .before .before .before .option-fault in
+    let s = a in
+    searching-turn (now (s .ws)) (s .m) (s .np) (s .n) (now (s .marks)) (loop .inv) (this d) (option-fault .result) (option-fault .ensures .0) (c .if1 .left) (option-fault .last .1 .1 .1 .1 .1 .0) (option-fault .kept .1 .1 .1 .1 .1 .0) (option-fault .ensures .1)
 
 same-length-2 : tie.Need-same-length-2 Inv-loop μ-loop
 same-length-2 c = c .before .loop .inv .size

@@ -58,16 +58,24 @@ same-length c = search needs
 
 returns-3 : tie.Need-returns-3
 returns-3 c =
-    let q = c .before .before .before .before .before .before .before in
-    at-fault _ _ _ _ (S q) (sized q) (holds (c .before .before .before .before .before .before .has-room .ensures) (c .before .before .before .before .before .if1 .left)) _ (c .before .before .before .first-fault .ensures) (c .if2 .taken)
+    let d = c .before .before .before .before .before .before .before in
+    let has-room = c .before .before .before .before .before .before .has-room in
+    let if1 = c .before .before .before .before .before .if1 in
+    let first-fault = c .before .before .before .first-fault in
+    let q = d in
+    at-fault _ _ _ _ (S q) (sized q) (holds (has-room .ensures) (if1 .left)) _ (first-fault .ensures) (c .if2 .taken)
 
 same-length-2 : tie.Need-same-length-2
 same-length-2 c = search needs
 
 returns-4 : tie.Need-returns-4
 returns-4 c =
-    let q = c .before .before .before .before .before .before .before in
-    at-end _ _ _ _ (S q) (sized q) (holds (c .before .before .before .before .before .before .has-room .ensures) (c .before .before .before .before .before .if1 .left)) _ (c .before .before .before .first-fault .ensures) (c .if2 .left)
+    let d = c .before .before .before .before .before .before .before in
+    let has-room = c .before .before .before .before .before .before .has-room in
+    let if1 = c .before .before .before .before .before .if1 in
+    let first-fault = c .before .before .before .first-fault in
+    let q = d in
+    at-end _ _ _ _ (S q) (sized q) (holds (has-room .ensures) (if1 .left)) _ (first-fault .ensures) (c .if2 .left)
 
 pub accept-spec : {M : Type 1} → statement M
 accept-spec =

@@ -33,7 +33,11 @@ same-length : tie.Need-same-length
 same-length c = search needs
 
 returns : tie.Need-returns
-returns c = number-put (now (c .before .before .before .before .before .before .before .args .out)) (c .before .before .before .before .room .result) (c .before .before .before .before .room .ensures) (c .before .before .write-unsigned .last .1 .0) (c .before .before .write-unsigned .result) (c .before .before .before .before .before .before .before .args .after) (c .before .before .write-unsigned .kept .1 .0) (omega (arith, c .before .before .write-unsigned .ensures .front .short))
+returns c =
+    let a = c .before .before .before .before .before .before .before .args in
+    let room = c .before .before .before .before .room in
+    let write-unsigned = c .before .before .write-unsigned in
+    number-put (now (a .out)) (room .result) (room .ensures) (write-unsigned .last .1 .0) (write-unsigned .result) (a .after) (write-unsigned .kept .1 .0) (omega (arith, write-unsigned .ensures .front .short))
 
 pub put-number-spec : {M : Type 1} → statement M
 put-number-spec =

@@ -32,7 +32,11 @@ same-length : tie.Need-same-length
 same-length c = search needs
 
 returns : tie.Need-returns
-returns c = number-put (now (c .before .before .before .before .before .before .before .args .out)) (c .before .before .before .before .room .result) (c .before .before .before .before .room .ensures) (c .before .before .write-word .last .1 .1 .0) (c .before .before .write-word .result) (c .before .before .before .before .before .before .before .args .after) (c .before .before .write-word .kept .1 .1 .0) (c .before .before .write-word .ensures .front .short)
+returns c =
+    let a = c .before .before .before .before .before .before .before .args in
+    let room = c .before .before .before .before .room in
+    let write-word = c .before .before .write-word in
+    number-put (now (a .out)) (room .result) (room .ensures) (write-word .last .1 .1 .0) (write-word .result) (a .after) (write-word .kept .1 .1 .0) (write-word .ensures .front .short)
 
 pub put-word-spec : {M : Type 1} → statement M
 put-word-spec =

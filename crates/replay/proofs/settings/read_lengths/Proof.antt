@@ -67,13 +67,24 @@ returns-6 : tie.Need-returns-6
 returns-6 c = search needs
 
 returns-7 : tie.Need-returns-7
-returns-7 c = record {
-  problem = c .before .before .before .before .before .before .before .before .before .before .before .before .before .before .before .before .before .before .before .before .before .before .pre;
-  table = at-most (c .before .before .before .before .before .before .before .before .before .before .before .before .before .before .before .before .before .before .before .before .number-at .ensures) (c .before .before .before .before .before .before .before .before .before .before .before .before .before .before .before .before .before .before .table .given .1);
-  spare = at-most (c .before .before .before .before .before .before .before .before .before .before .before .before .before .before .before .before .number-at2 .ensures) (c .before .before .before .before .before .before .before .before .before .before .before .before .before .before .spare .given .1);
-  path = at-most (c .before .before .before .before .before .before .before .before .before .before .before .before .number-at3 .ensures) (c .before .before .before .before .before .before .before .before .before .before .path .given .1);
-  profile = at-most (c .before .before .before .before .before .before .before .before .number-at4 .ensures) (c .before .before .before .before .before .before .profile .given .1);
-  found = at-most (c .before .before .before .before .number-at5 .ensures) (c .before .before .found .given .1);
+returns-7 c =
+    let pre = c .before .before .before .before .before .before .before .before .before .before .before .before .before .before .before .before .before .before .before .before .before .before .pre in
+    let number-at = c .before .before .before .before .before .before .before .before .before .before .before .before .before .before .before .before .before .before .before .before .number-at in
+    let the-table = c .before .before .before .before .before .before .before .before .before .before .before .before .before .before .before .before .before .before .table in
+    let number-at2 = c .before .before .before .before .before .before .before .before .before .before .before .before .before .before .before .before .number-at2 in
+    let the-spare = c .before .before .before .before .before .before .before .before .before .before .before .before .before .before .spare in
+    let number-at3 = c .before .before .before .before .before .before .before .before .before .before .before .before .number-at3 in
+    let the-path = c .before .before .before .before .before .before .before .before .before .before .path in
+    let number-at4 = c .before .before .before .before .before .before .before .before .number-at4 in
+    let the-profile = c .before .before .before .before .before .before .profile in
+    let number-at5 = c .before .before .before .before .number-at5 in
+    record {
+  problem = pre;
+  table = at-most (number-at .ensures) (the-table .given .1);
+  spare = at-most (number-at2 .ensures) (the-spare .given .1);
+  path = at-most (number-at3 .ensures) (the-path .given .1);
+  profile = at-most (number-at4 .ensures) (the-profile .given .1);
+  found = at-most (number-at5 .ensures) (c .before .before .found .given .1);
 }
 
 pub read-lengths-spec : {M : Type 1} → statement M
