@@ -25,10 +25,6 @@ use Rattle.calls.proofs.Rooms.{set-up-rooms, next-rooms, give-up-rooms,
 pub over-part : {A : Type 0} (new old part : List A) (n : ℕ) → part ≡ new → length part ≡ n → part ++ drop n old ≡ over new old
 over-part new old part n e h = rw (sym h) (rw e refl)
 
-pub top-words : (np : ℕ) → path-words np [] ≡ replicate np (pos 0)
-unfolding path-words in-order
-top-words np = ap (λ (k : ℕ). replicate k (pos 0)) (let e : np - 0 ≡ np = omega arith in e)
-
 -- ---- the refusals, by the rooms of each call
 
 module _ (ws : List ℤ) where

@@ -1,7 +1,7 @@
 -- Words that are accepted, and the point that was lent. Assumes nothing.
 use mathlib.Core.Path.{_≡_, sym, ap, _∙_}
 use mathlib.Core.Option.{some}
-use mathlib.Core.List.{List, []}
+use mathlib.Core.List.{List}
 use Prim.Native.Nat.{ℕ, _+_, _≤_, _<_}
 use native.Mathlib.Omega.{arith}
 use lib.Dec.{T}
@@ -10,46 +10,24 @@ use lib.ListN.{length, take}
 use lib.Seq.{length-take-le}
 use Rattle.rules.specs.declared.Sizes.{Sizes}
 use Rattle.rules.specs.declared.State.{State}
-use Rattle.rules.specs.Problem.{items, cut, meant, sizes, table-length, node-count, fault}
+use Rattle.rules.specs.Problem.{cut, meant, sizes, table-length, fault}
 use Rattle.rules.specs.Links.{fresh}
 use Rattle.rules.specs.Walk.{Level}
 use Rattle.rules.specs.Calls.{counts-fit, lent-point}
 use Rattle.laws.specs.Faults.{good-meant}
-use Rattle.tables.specs.Nodes.{nodes}
-use Rattle.tables.specs.Sizes.{nodes-meant}
 use Rattle.problem.specs.Measured.{Measured}
-use Rattle.search.specs.Points.{At, Begun}
-use Rattle.search.specs.Begun.{fresh-at, point-begun, counts-begun}
+use Rattle.search.specs.Points.{Begun}
+use Rattle.search.specs.Begun.{point-begun, counts-begun}
+use Rattle.search.specs.Meant.{np-meant, n-meant, few-nodes, fresh-top}
 use Rattle.search.specs.Replays.{Testing}
 use Rattle.calls.specs.Tested.{Laid, Parts, Fronts}
 
--- ---- the problem meant
-
-module _ (ws : List ℤ) (s : Sizes) (M : Measured ws s) where
-  pub np-meant : meant (cut ws) .np ≡ s .np
-  unfolding meant sizes
-  np-meant = sym (ap (λ (x : Sizes). x .np) (M .are))
-
-  pub n-meant : s .np + s .ns ≡ items (meant (cut ws))
-  unfolding meant sizes
-  n-meant = ap (λ (x : Sizes). x .np + x .ns) (M .are)
-
-  module _ (f : fault (cut ws) ≡ 0) (small : table-length s < 2147483648) where
-    few-nodes : nodes (meant (cut ws)) < 2147483648
-    few-nodes =
-        let e : nodes (meant (cut ws)) ≡ node-count s = nodes-meant (cut ws) f ∙ ap (λ (x : Sizes). node-count x) (sym (M .are)) in
-        omega arith
-
-    -- the fresh table is that of the top
-    pub fresh-top : {t : List ℤ} → t ≡ fresh (meant (cut ws)) → At (meant (cut ws)) (s .np + s .ns) [] t
-    fresh-top e = rw e (fresh-at (good-meant (cut ws) f) few-nodes n-meant)
-
-    -- the point that was lent
-    pub begun : (st : State) (lent path : List ℤ) → s .np ≤ length path → {v : List Level} → lent-point (cut ws) st lent path ≡ some v
-        → Begun (meant (cut ws)) (s .np + s .ns) v (take (table-length s) lent) (take (s .np) path) st
-    unfolding lent-point sizes cut meant
-    begun st lent path h e =
-        point-begun st (take (table-length s) lent) (take (s .np) path) (good-meant (cut ws) f) few-nodes n-meant (length-take-le (s .np) path h ∙ sym np-meant) (rw (M .are) e)
+-- the point that was lent
+pub begun : (ws : List ℤ) (s : Sizes) (M : Measured ws s) → fault (cut ws) ≡ 0 → table-length s < 2147483648 → (st : State) (lent path : List ℤ) → s .np ≤ length path
+    → {v : List Level} → lent-point (cut ws) st lent path ≡ some v → Begun (meant (cut ws)) (s .np + s .ns) v (take (table-length s) lent) (take (s .np) path) st
+unfolding lent-point sizes cut meant
+begun ws s M f small st lent path h e =
+    point-begun st (take (table-length s) lent) (take (s .np) path) (good-meant (cut ws) f) (few-nodes ws s M f small) (n-meant ws s M) (length-take-le (s .np) path h ∙ sym (np-meant ws s M)) (rw (M .are) e)
 
 pub testing : (ws : List ℤ) (s : Sizes) (t spare path spare′ : List ℤ) → Parts ws s t spare path → length spare′ ≡ length spare → spare′ ≡ fresh (meant (cut ws))
     → Testing (meant (cut ws)) (s .np + s .ns) t spare′ path

@@ -1,5 +1,4 @@
 pub mod Bytes
 pub mod Cutting
 pub mod Written
-pub mod Walking
 pub mod Outcomes

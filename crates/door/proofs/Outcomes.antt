@@ -27,10 +27,11 @@ use Rattle.rules.specs.Door.{DoorOutcome, walk-to, door-room, door-refusal, doo
 use Rattle.words.specs.Read.{Natural}
 use Rattle.problem.specs.Measured.{Within, within, table-bound, judged-sized, judged-refused, first-some}
 use Rattle.problem.specs.Room.{room, served, served-all, Accepted, accepted}
+use Rattle.laws.specs.Reached.{in-order-length}
 use Rattle.search.specs.Points.{On}
-use Rattle.door.specs.Solved.{Arrived, lists-of}
-use Rattle.door.specs.Meant.{in-order-long, on-shallow}
-use Rattle.door.proofs.Walking.{solved}
+use Rattle.search.specs.Depth.{level-within}
+use Rattle.search.specs.Arrived.{Arrived, solved, on-level}
+use Rattle.door.specs.Solved.{lists-of}
 use Rattle.door.proofs.Written.{firsts, firsts-are}
 
 -- ---- 9's test
@@ -125,20 +126,20 @@ module _ (problem : List ℕ) (number allowance : ℕ) (out : List ℕ) where
 
 -- ---- what a walk comes to
 
-module _ {P : Problem} {n : ℕ} {w : Walk} {t path : List ℤ} {r : NextAnswer} (A : Arrived P n w t path r) where
+module _ {P : Problem} {n : ℕ} {w : Walk} {visited profile : List ℕ} {t path : List ℤ} {profile′ : List ℕ} {r : NextAnswer} (A : Arrived P n w visited profile t path profile′ r) where
   module _ {at : State} {v depth : ℕ} (q : r ≡ NextSays.Solution at v) (d : depth ≡ at .depth) where
     is-depth : depth ≡ length (w .at)
     is-depth = d ∙ ap (λ (x : State). x .depth) (solved w (A .from) (A .answer) q .1)
 
     pub on-depth : On P n (w .at) t path depth
-    on-depth = record { at = A .on .at; path-is = A .on .path-is; level = is-depth }
+    on-depth = on-level (A .on) is-depth
 
     pub shallow : depth ≤ length path
-    shallow = omega (arith, is-depth, on-shallow (A .on))
+    shallow = omega (arith, is-depth, level-within (A .on))
 
     module _ (old : List ℤ) {found : List ℤ} (f : found ≡ over (map pos (numbers (w .at))) old) where
       as-many : length (numbers (w .at)) ≡ depth
-      as-many = in-order-long (λ c. c .option .number) (w .at) ∙ sym is-depth
+      as-many = in-order-length (λ c. c .option .number) (w .at) ∙ sym is-depth
 
       pub found-natural : (k : ℕ) → k < depth → Natural found k
       found-natural k h =

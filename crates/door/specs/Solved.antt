@@ -6,13 +6,8 @@ use Prim.Native.Nat.{ℕ, _-_, _/_, _<_}
 use lib.Dec.{ltb}
 use lib.IntN.{ℤ, pos}
 use lib.ListN.{length, replicate}
-use Rattle.rules.specs.declared.NextAnswer.{NextAnswer}
 use Rattle.rules.specs.declared.Sizes.{Sizes}
-use Rattle.rules.specs.declared.State.{State}
-use Rattle.rules.specs.Problem.{Problem, table-length}
-use Rattle.rules.specs.Walk.{Walk}
-use Rattle.rules.specs.Calls.{moved, next-answer}
-use Rattle.search.specs.Points.{On}
+use Rattle.rules.specs.Problem.{table-length}
 
 -- bytes of more words than 3, 64 counts and 256 entries
 abbrev pub Long : List ℕ → Type 0
@@ -21,12 +16,6 @@ Long bytes = 2319 < length bytes
 -- how many option numbers an output of n bytes has room for
 abbrev pub lists-of : ℕ → ℕ
 lists-of n = cond (ltb n 4) 0 ((n - 4) / 4)
-
--- table and path are those where the walk w ended, and the answer tells its end
-pub record Arrived (P : Problem) (n : ℕ) (w : Walk) (t path : List ℤ) (r : NextAnswer) : Type 0 where
-  pub from : State
-  pub answer : r ≡ next-answer (w .end) (moved from w) (length (w .visited))
-  pub on : On P n (w .at) t path (length (w .at))
 
 -- parts of the lengths that the sizes ask, path and profile not yet used
 pub record Parts (s : Sizes) (t path : List ℤ) (profile : List ℕ) : Type 0 where

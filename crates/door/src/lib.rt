@@ -5,15 +5,14 @@ ghost use Prim.Native.Nat.{ℕ, _+_, _*_, _<_, _≤_};
 ghost use lib.ListN.{length, take, drop};
 ghost use Rattle.rules.specs.Lists.{flat, over, got};
 ghost use Rattle.rules.specs.Words.{nat, bytes-words, word-bytes};
-ghost use Rattle.rules.specs.Problem.{Problem, door-limits, cut, meant, judged, cut-options, cut-refusal, problem-refusal};
+ghost use Rattle.rules.specs.Problem.{door-limits, cut, meant, judged, cut-options, cut-refusal, problem-refusal};
 ghost use Rattle.rules.specs.Order.{pick};
 ghost use Rattle.rules.specs.declared.Phase.the-variants.{Ready};
 ghost use Rattle.rules.specs.declared.Sizes.{Sizes};
 ghost use Rattle.rules.specs.Door.{walk-to, door-room, door-walked, door-as, door-call};
 ghost use Rattle.words.specs.Read.{Natural};
 ghost use Rattle.problem.specs.Room.{Accepted};
-ghost use Rattle.search.specs.Points.{On, Profile};
-ghost use Rattle.door.specs.Solved.{Long, Arrived, Parts, lists-of};
+ghost use Rattle.door.specs.Solved.{Long, Parts, lists-of};
 use init::init_links;
 use init::table_words;
 use problem::check;
@@ -22,12 +21,10 @@ use rules::DOOR_ENTRIES;
 use rules::DOOR_ITEMS;
 use rules::DOOR_OPTIONS;
 use rules::NextAnswer;
-use rules::Phase;
 use rules::Sizes;
-use rules::State;
 use rules::Verdict;
 use rules::door;
-use search::go;
+use search::walk_to;
 use search::write_found;
 use words::is_natural;
 use words::link_at;
@@ -115,40 +112,6 @@ fn long_refusal(problem: &[u8]) -> u32
         return 3;
     }
     4
-}
-
-// To solution `number`, on parts of the stated lengths, with one allowance of visits for all solutions on the way.
-fn walk_to(
-    t: &mut [i32],
-    path: &mut [i32],
-    profile: &mut [u64],
-    n: usize,
-    number: u64,
-    allowance: u64,
-) -> NextAnswer
-    requires { ⌜ Profile (length (now path)) (now profile) ⌝ }
-    requires { ⌜ ((P : Problem) × On P n [] (now t) (now path) 0) ⌝ }
-    ensures { λ r. ⌜ ((P : Problem) → On P n [] (now (t .entry)) (now (path .entry)) 0 → Arrived P n (walk-to P (pick P) number allowance Ready []) (now (t .exit)) (now (path .exit)) r) ⌝ }
-{
-    let mut state = State {
-        phase: Phase::Ready,
-        depth: 0,
-        updates: 0,
-    };
-    let mut left = allowance;
-    let mut ahead = number;
-    loop {
-        let answer = go(t, path, profile, n, state, left);
-        if ahead == 0 {
-            return answer;
-        }
-        let NextAnswer::Solution(at, visits) = answer else {
-            return answer;
-        };
-        state = at;
-        left -= visits;
-        ahead -= 1;
-    }
 }
 
 // Writes the depth and the first `depth` words of `found` over the front of `out`.

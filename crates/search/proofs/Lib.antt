@@ -6,3 +6,4 @@ pub mod Running
 pub mod Found
 pub mod Replaying
 pub mod Testing
+pub mod Walking

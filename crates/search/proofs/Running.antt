@@ -2,7 +2,7 @@
 use mathlib.Core.Path.{_≡_, refl, sym, ap, _∙_}
 use mathlib.Core.Logic.{_≢_}
 use mathlib.Core.Option.{Option, none, some}
-use mathlib.Core.List.{List, [], _∷_}
+use mathlib.Core.List.{List, [], _∷_, _++_}
 use Prim.Native.Nat.{ℕ, zero, suc, _+_, _-_, _≤_, _<_}
 use native.Mathlib.Omega.{arith}
 use borrow.Author.Tests.{eq-eqb, ne-eqb}
@@ -61,6 +61,18 @@ bumped-fits {np} {profile} l p = record {
   long = length-set profile l (capped (getD profile l 0) 1) ∙ p .long;
   small = set-small profile l (capped (getD profile l 0) 1) (omega arith) (p .small);
 }
+
+-- counts within the cap stay so
+pub profile-fits : (visited : List ℕ) {np : ℕ} {profile : List ℕ} → Profile np profile → Profile np (profile-from 0 visited profile)
+profile-fits [] {np} {profile} p = rw (profile-none 0 profile (p .small)) p
+profile-fits (l ∷ visited) {np} {profile} p = rw (profile-step 0 l l visited profile (omega arith)) (profile-fits visited (bumped-fits l p))
+
+-- visits and then more of them
+pub profile-then : (visited more : List ℕ) {np : ℕ} {profile : List ℕ} → Profile np profile → profile-from 0 (visited ++ more) profile ≡ profile-from 0 more (profile-from 0 visited profile)
+profile-then [] more {np} {profile} p = ap (profile-from 0 more) (sym (profile-none 0 profile (p .small)))
+profile-then (l ∷ visited) more {np} {profile} p =
+    profile-step 0 l l (visited ++ more) profile (omega arith) ∙ profile-then visited more (bumped-fits l p)
+    ∙ ap (profile-from 0 more) (sym (profile-step 0 l l visited profile (omega arith)))
 
 -- ---- what is told at the end of a walk that comes after u updates and v visits
 

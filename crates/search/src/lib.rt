@@ -4,17 +4,20 @@ pub mod point;
 pub mod x;
 
 ghost use mathlib.Core.Path.{_≡_};
-ghost use mathlib.Core.List.{List, map};
+ghost use mathlib.Core.List.{List, [], map};
 ghost use Prim.Native.Nat.{ℕ, _<_, _≤_};
 ghost use lib.IntN.{pos};
 ghost use lib.ListN.{length, getD, set};
 ghost use Rattle.rules.specs.Lists.{over};
 ghost use Rattle.rules.specs.Problem.{Problem};
 ghost use Rattle.rules.specs.Order.{pick};
+ghost use Rattle.rules.specs.declared.Phase.the-variants.{Ready};
 ghost use Rattle.rules.specs.Walk.{Level, numbers, walk, resume};
 ghost use Rattle.rules.specs.Walk as Walk;
 ghost use Rattle.rules.specs.Calls.{cap, capped, started};
+ghost use Rattle.rules.specs.Door.{walk-to};
 ghost use Rattle.search.specs.Points.{On, SomeOn, Gone, Taking, SomeTaking, Profile, Ran, Begun, SomeBegun};
+ghost use Rattle.search.specs.Arrived.{visits-to, Arrived};
 use crate::choose::choose;
 use crate::x::Again;
 use crate::x::try_again;
@@ -149,6 +152,36 @@ pub fn go(
                 allowance,
             )
         }
+    }
+}
+
+// From the top to solution `number`, on parts of the stated lengths, with one allowance of visits for all solutions on the way.
+pub fn walk_to(
+    t: &mut [i32],
+    path: &mut [i32],
+    profile: &mut [u64],
+    n: usize,
+    number: u64,
+    allowance: u64,
+) -> NextAnswer
+    requires { ⌜ Profile (length (now path)) (now profile) ⌝ }
+    requires { ⌜ ((P : Problem) × On P n [] (now t) (now path) 0) ⌝ }
+    ensures { λ r. ⌜ ((P : Problem) → On P n [] (now (t .entry)) (now (path .entry)) 0 → Arrived P n (walk-to P (pick P) number allowance Ready []) (visits-to P (pick P) number allowance Ready []) (now (profile .entry)) (now (t .exit)) (now (path .exit)) (now (profile .exit)) r) ⌝ }
+{
+    let mut state = state_at(Phase::Ready, 0, 0);
+    let mut left = allowance;
+    let mut ahead = number;
+    loop {
+        let answer = go(t, path, profile, n, state, left);
+        if ahead == 0 {
+            return answer;
+        }
+        let NextAnswer::Solution(at, visits) = answer else {
+            return answer;
+        };
+        state = at;
+        left -= visits;
+        ahead -= 1;
     }
 }
 

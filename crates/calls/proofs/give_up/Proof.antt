@@ -6,7 +6,7 @@ use Rattle.rules.specs.Lists.{over}
 use Rattle.rules.specs.Calls.{path-words}
 use Rattle.calls.proofs.Entry.{stops, goes}
 use Rattle.calls.proofs.Outcomes.{give-up-refused, give-up-done}
-use Rattle.calls.proofs.Points.{np-meant}
+use Rattle.search.specs.Meant.{np-meant}
 use borrow.Author.Needs.{needs}
 use Rattle.calls.proofs.give_up.Statement.{statement}
 use Rattle.calls.proofs.give_up.Tie as tie
@@ -46,9 +46,8 @@ same-length-3 c = search needs
 
 returns : tie.Need-returns
 returns c =
-    let the-a = c .before .before .before .before .before .before .before .before .before .before .before .args in
+    let a = c .before .before .before .before .before .before .before .before .before .before .before .args in
     let test = c .before .before .before .before .before .test in
-    let a = the-a in
     let X = test .ensures in
     let (x, y) = stops X (c .before .k .given .1) in
     give-up-refused (a .problem .now) (record { table = a .table .now; spare = a .spare .now; path = a .path .now }) (a .state) _ _ x y (X .spare-is)
@@ -64,11 +63,10 @@ same-length-6 c = search needs
 
 returns-2 : tie.Need-returns-2
 returns-2 c =
-    let the-a = c .before .before .before .before .before .before .before .before .before .before .before .before .before .before .before .before .before .args in
+    let a = c .before .before .before .before .before .before .before .before .before .before .before .before .before .before .before .before .before .args in
     let test = c .before .before .before .before .before .before .before .before .before .before .before .test in
     let s = c .before .before .before .before .before .before .before .s in
     let lay-out = c .before .before .before .lay-out in
-    let a = the-a in
     let X = test .ensures in
     let g = goes X (s .given .1) in
     let n = sym (np-meant _ _ (g .is-laid .measured)) in

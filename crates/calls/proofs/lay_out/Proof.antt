@@ -6,7 +6,8 @@ use Prim.Native.Nat.{_≤_}
 use native.Mathlib.Omega.{arith}
 use lib.ListN.{length}
 use lib.Seq.{length-take-le}
-use Rattle.calls.proofs.Outcomes.{over-part, top-words}
+use Rattle.search.specs.Meant.{top-words}
+use Rattle.calls.proofs.Outcomes.{over-part}
 use borrow.Author.Needs.{needs}
 use Rattle.calls.proofs.lay_out.Statement.{statement}
 use Rattle.calls.proofs.lay_out.Tie as tie
@@ -36,11 +37,10 @@ same-length-2 c = search needs
 
 returns : tie.Need-returns
 returns c =
-    let the-a = c .before .before .before .before .before .before .before .args in
+    let a = c .before .before .before .before .before .before .before .args in
     let table-words = c .before .before .before .before .before .before .table-words in
     let d = c .before .before .before .before .before in
     let init-links = c .before .before .before .before .init-links in
-    let a = the-a in
     let i = init-links in
     let w = table-words .result in
     (over-part _ (a .table .now) _ w (i .ensures) (i .kept .0 ∙ sym (slice-aggregate-init-links d)), c .before .clear-path .ensures ∙ ap (λ (x : List ℤ). over x (a .path .now)) (sym (top-words (a .s .np))))

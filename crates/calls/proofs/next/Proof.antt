@@ -9,7 +9,8 @@ use Rattle.rules.specs.Walk.{Walk, resume}
 use Rattle.rules.specs.Calls.{profile-from}
 use Rattle.calls.proofs.Entry.{stops, goes}
 use Rattle.calls.proofs.Outcomes.{next-refused, next-ran}
-use Rattle.calls.proofs.Points.{np-meant, begun, fronts}
+use Rattle.search.specs.Meant.{np-meant}
+use Rattle.calls.proofs.Points.{begun, fronts}
 use borrow.Author.Needs.{needs}
 use Rattle.calls.proofs.next.Statement.{statement}
 use Rattle.calls.proofs.next.Tie as tie
@@ -31,11 +32,10 @@ enum-known-s c = search needs
 
 run-fronts-requires : tie.Need-run-fronts-requires
 run-fronts-requires c κs =
-    let the-a = c .before .before .before .before .before .before .before .before .before .before .before .before .before .before .before .before .before .args in
+    let a = c .before .before .before .before .before .before .before .before .before .before .before .before .before .before .before .before .before .args in
     let shorter = c .before .before .before .before .before .before .before .before .before .before .before .before .before .before .before .shorter in
     let test = c .before .before .before .before .before .before .before .before .before .test in
     let s = c .before .before .before .before .before .s in
-    let a = the-a in
     let g = goes (test .ensures) (s .given .1) in
     let m = shorter .ensures in
     fronts (a .problem .now) _ _ _ (a .profile .now) (a .found .now) (a .state) (g .is-laid) (omega (arith, g .lists)) (omega (arith, g .lists)) (g .fit) (g .at)
@@ -54,10 +54,9 @@ same-length-4 c = search needs
 
 returns : tie.Need-returns
 returns c =
-    let the-a = c .before .before .before .before .before .before .before .before .before .before .before .before .before .args in
+    let a = c .before .before .before .before .before .before .before .before .before .before .before .before .before .args in
     let shorter = c .before .before .before .before .before .before .before .before .before .before .before .shorter in
     let test = c .before .before .before .before .before .test in
-    let a = the-a in
     let X = rw (shorter .ensures) at (test .ensures) in
     let (x, y) = stops X (c .before .k .given .1) in
     next-refused (a .problem .now) (record { table = a .table .now; spare = a .spare .now; path = a .path .now; profile = a .profile .now; found = a .found .now }) (a .state) (a .allowance) _ _ x y (X .spare-is)
@@ -79,12 +78,11 @@ same-length-9 c = search needs
 
 returns-2 : tie.Need-returns-2
 returns-2 c =
-    let the-a = c .before .before .before .before .before .before .before .before .before .before .before .before .before .before .before .before .before .before .before .before .before .before .before .args in
+    let a = c .before .before .before .before .before .before .before .before .before .before .before .before .before .before .before .before .before .before .before .before .before .before .before .args in
     let shorter = c .before .before .before .before .before .before .before .before .before .before .before .before .before .before .before .before .before .before .before .before .before .shorter in
     let test = c .before .before .before .before .before .before .before .before .before .before .before .before .before .before .before .test in
     let s = c .before .before .before .before .before .before .before .before .before .before .before .s in
     let run-fronts = c .before .before .before .before .before .run-fronts in
-    let a = the-a in
     let X = rw (shorter .ensures) at (test .ensures) in
     let g = goes X (s .given .1) in
     let L = g .is-laid in

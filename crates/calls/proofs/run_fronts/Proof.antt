@@ -35,10 +35,9 @@ slice-aggregate-run-3 c = sym (length-take-le _ _ (c .before .before .before .be
 run-requires : tie.Need-run-requires
 run-requires c κs =
     let pre = c .before .before .before .before .before .before .before .pre in
-    let the-a = c .before .before .before .before .before .before .before .args in
+    let a = c .before .before .before .before .before .before .before .args in
     let table-words = c .before .before .before .before .before .table-words in
     let F = pre in
-    let a = the-a in
     let w = table-words .ensures in
     let lp = length-take-le (a .s .np) (a .path .now) (F .path-room) in
     let lr = length-take-le (a .s .np) (a .profile .now) (F .profile-room) in
@@ -58,12 +57,11 @@ same-length-4 c = search needs
 
 returns : tie.Need-returns
 returns c =
-    let the-a = c .before .before .before .before .before .before .before .before .before .before .before .before .before .args in
+    let a = c .before .before .before .before .before .before .before .before .before .before .before .before .before .args in
     let pre = c .before .before .before .before .before .before .before .before .before .before .before .before .before .pre in
     let table-words = c .before .before .before .before .before .before .before .before .before .before .before .table-words in
     let run = c .before .before .before .before .before .run in
     λ P v B.
-    let a = the-a in
     let F = pre in
     let w = table-words .ensures in
     let k = run .kept in

@@ -7,7 +7,7 @@ use Rattle.rules.specs.Lists.{over}
 use Rattle.rules.specs.Calls.{SetUpLent, path-words}
 use Rattle.calls.proofs.Entry.{set-up-stops, set-up-goes}
 use Rattle.calls.proofs.Outcomes.{set-up-refused, set-up-done}
-use Rattle.calls.proofs.Points.{np-meant}
+use Rattle.search.specs.Meant.{np-meant}
 use borrow.Author.Needs.{needs}
 use Rattle.calls.proofs.set_up.Statement.{statement}
 use Rattle.calls.proofs.set_up.Tie as tie

@@ -14,21 +14,22 @@ use Rattle.rules.specs.Walk.{Walk}
 use Rattle.rules.specs.Calls.{next-said}
 use Rattle.rules.specs.Door.{walk-to}
 use Rattle.problem.specs.CutLaws.{cannot}
+use Rattle.problem.specs.Measured.{table-bound}
 use Rattle.search.specs.Points.{On}
-use Rattle.door.specs.Solved.{Arrived}
-use Rattle.door.specs.Meant.{top-on, top-profile}
+use Rattle.search.specs.Arrived.{visits-to, Arrived}
+use Rattle.search.specs.Meant.{top-on, top-profile}
 use Rattle.door.proofs.Outcomes.{on-depth, shallow, found-natural, ends-solved, ends-other}
 use Rattle.door.proofs.solve_parts.Statement.{statement}
 use Rattle.door.proofs.solve_parts.Tie as tie
 
 -- the search begins at the top
 top : (q : tie.After-walk-to-arg3) → On (meant (cut (q .before .before .before .before .before .before .before .before .before .args .problem .now))) (q .before .before .before .before .before .before .before .before .before .args .s .np + q .before .before .before .before .before .before .before .before .before .args .s .ns) [] (q .before .before .before .before .before .init-links .last .0) (q .before .before .before .before .before .before .before .before .before .args .path .now) 0
-top q = top-on (q .before .before .before .before .before .before .before .before .before .pre .0) (q .before .before .before .before .before .init-links .ensures) (q .before .before .before .before .before .before .before .before .before .pre .1 .path-is)
+top q = let A = q .before .before .before .before .before .before .before .before .before .pre .0 in top-on _ _ (A .measures) (A .faultless) (omega (arith, table-bound (A .bounds))) (q .before .before .before .before .before .init-links .ensures) (q .before .before .before .before .before .before .before .before .before .pre .1 .path-is)
 
 abbrev walked : tie.After-walk-to → Walk
 walked q = walk-to (meant (cut (q .before .before .before .before .before .before .before .before .before .before .args .problem .now))) (pick (meant (cut (q .before .before .before .before .before .before .before .before .before .before .args .problem .now)))) (q .before .before .before .before .before .before .before .before .before .before .args .number) (q .before .before .before .before .before .before .before .before .before .before .args .allowance) Ready []
 
-arrived : (q : tie.After-walk-to) → Arrived (meant (cut (q .before .before .before .before .before .before .before .before .before .before .args .problem .now))) (q .before .before .before .before .before .before .before .before .before .before .args .s .np + q .before .before .before .before .before .before .before .before .before .before .args .s .ns) (walked q) (q .walk-to .last .0) (q .walk-to .last .1 .0) (q .walk-to .result)
+arrived : (q : tie.After-walk-to) → Arrived (meant (cut (q .before .before .before .before .before .before .before .before .before .before .args .problem .now))) (q .before .before .before .before .before .before .before .before .before .before .args .s .np + q .before .before .before .before .before .before .before .before .before .before .args .s .ns) (walked q) (visits-to (meant (cut (q .before .before .before .before .before .before .before .before .before .before .args .problem .now))) (pick (meant (cut (q .before .before .before .before .before .before .before .before .before .before .args .problem .now)))) (q .before .before .before .before .before .before .before .before .before .before .args .number) (q .before .before .before .before .before .before .before .before .before .before .args .allowance) Ready []) (q .before .before .before .before .before .before .before .before .before .before .args .profile .now) (q .walk-to .last .0) (q .walk-to .last .1 .0) (q .walk-to .last .1 .1 .0) (q .walk-to .result)
 arrived q = q .walk-to .ensures (meant (cut (q .before .before .before .before .before .before .before .before .before .before .args .problem .now))) (top (q .before))
 
 -- at a solution

@@ -65,13 +65,12 @@ same-length c = search needs
 
 returns-2 : tie.Need-returns-2
 returns-2 c =
-    let the-a = c .before .before .before .before .before .before .before .before .before .before .before .before .args in
+    let a = c .before .before .before .before .before .before .before .before .before .before .before .before .args in
     let pre = c .before .before .before .before .before .before .before .before .before .before .before .before .pre in
     let shorter = c .before .before .before .before .before .before .before .before .before .before .shorter in
     let counts-fit = c .before .before .before .before .before .before .before .before .counts-fit in
     let if1 = c .before .before .before .before .before .before .before .if1 in
     let table-words = c .before .before .before .before .before .before .table-words in
-    let a = the-a in
     let L = pre .0 in
     let p = c .before .before .fresh-point .ensures in
     let w = table-words .ensures in
@@ -84,13 +83,12 @@ same-length-2 c = search needs
 
 returns-3 : tie.Need-returns-3
 returns-3 c =
-    let the-a = c .before .before .before .before .before .before .before .before .before .before .before .before .args in
+    let a = c .before .before .before .before .before .before .before .before .before .before .before .before .args in
     let pre = c .before .before .before .before .before .before .before .before .before .before .before .before .pre in
     let shorter = c .before .before .before .before .before .before .before .before .before .before .shorter in
     let counts-fit = c .before .before .before .before .before .before .before .before .counts-fit in
     let if1 = c .before .before .before .before .before .before .before .if1 in
     let table-words = c .before .before .before .before .before .before .table-words in
-    let a = the-a in
     let L = pre .0 in
     let p = c .before .before .fresh-point .ensures in
     let w = table-words .ensures in

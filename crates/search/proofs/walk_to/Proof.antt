@@ -4,22 +4,25 @@ use native.Mathlib.Omega.{arith}
 use borrow.Author.Needs.{needs}
 use lib.ListN.{length}
 use Rattle.rules.specs.Problem.{Problem}
 use Rattle.search.specs.Points.{On}
-use Rattle.door.proofs.Walking.{Walking, walk-start, walk-ends, walk-stops, visits-few, walk-turns}
-use Rattle.door.proofs.walk_to.Statement.{statement}
-use Rattle.door.proofs.walk_to.Tie as tie
+use Rattle.search.proofs.Walking.{Walking, walk-start, walk-ends, walk-stops, visits-few, walk-turns}
+use Rattle.search.proofs.walk_to.Statement.{statement}
+use Rattle.search.proofs.walk_to.Tie as tie
 
 abbrev Inv-loop : tie.InvT-loop
-Inv-loop t₀ path₀ profile₀ n number allowance state₀ left₀ ahead₀ t path profile state left ahead = ((length t ≡ length t₀) × (length path ≡ length path₀) × (length profile ≡ length profile₀)) × ((P : Problem) → On P n [] t₀ path₀ 0 → Walking P n number allowance t path profile state left ahead)
+Inv-loop t₀ path₀ profile₀ n number allowance state₀ left₀ ahead₀ t path profile state left ahead = ((length t ≡ length t₀) × (length path ≡ length path₀) × (length profile ≡ length profile₀)) × ((P : Problem) → On P n [] t₀ path₀ 0 → Walking P n number allowance profile₀ t path profile state left ahead)
 
 abbrev μ-loop : tie.MeasureT-loop
 μ-loop t₀ path₀ profile₀ n number allowance state₀ left₀ ahead₀ t path profile state left ahead = ahead
 
+state-at-requires : tie.Need-state-at-requires Inv-loop μ-loop
+state-at-requires c κs = search needs
+
 loop-holds : tie.Need-loop-holds Inv-loop μ-loop
-loop-holds c = ((refl, refl, refl), λ P O. walk-start _ _ O (c .before .pre .0))
+loop-holds c = ((refl, refl, refl), λ P O. walk-start _ _ O (c .before .before .pre .0) (c .state-at .ensures))
 
 go-requires : tie.Need-go-requires Inv-loop μ-loop
-go-requires c κs = let W = c .before .before .before .loop .inv .1 (c .before .before .before .before .before .pre .1 .0) (c .before .before .before .before .before .pre .1 .1) in (W .small, (W .counts, (_, _, W .begun)))
+go-requires c κs = let W = c .before .before .before .loop .inv .1 (c .before .before .before .before .before .before .pre .1 .0) (c .before .before .before .before .before .before .pre .1 .1) in (W .small, (W .counts, (_, _, W .begun)))
 
 same-length : tie.Need-same-length Inv-loop μ-loop
 same-length c = c .before .before .before .before .before .go .kept .0 ∙ c .before .before .before .before .before .before .before .before .before .loop .inv .0 .0
@@ -49,7 +52,7 @@ returns-2 : tie.Need-returns-2 Inv-loop μ-loop
 returns-2 c = λ P O. let W = c .before .before .before .before .before .before .before .before .before .before .loop .inv .1 P O in walk-stops W (c .before .before .before .before .before .before .go .ensures P (W .s) (W .begun)) (c .match .keys2)
 
 sub-left : tie.Need-sub-left Inv-loop μ-loop
-sub-left c = let W = c .before .before .before .before .before .before .before .before .before .before .before .before .loop .inv .1 (c .before .before .before .before .before .before .before .before .before .before .before .before .before .before .pre .1 .0) (c .before .before .before .before .before .before .before .before .before .before .before .before .before .before .pre .1 .1) in visits-few W (c .before .before .before .before .before .before .before .before .go .ensures (c .before .before .before .before .before .before .before .before .before .before .before .before .before .before .pre .1 .0) (W .s) (W .begun)) (c .before .answer .given .1)
+sub-left c = let W = c .before .before .before .before .before .before .before .before .before .before .before .before .loop .inv .1 (c .before .before .before .before .before .before .before .before .before .before .before .before .before .before .before .pre .1 .0) (c .before .before .before .before .before .before .before .before .before .before .before .before .before .before .before .pre .1 .1) in visits-few W (c .before .before .before .before .before .before .before .before .go .ensures (c .before .before .before .before .before .before .before .before .before .before .before .before .before .before .before .pre .1 .0) (W .s) (W .begun)) (c .before .answer .given .1)
 
 sub-ahead : tie.Need-sub-ahead Inv-loop μ-loop
 sub-ahead c = omega (arith, c .before .before .before .if1 .left)
@@ -66,6 +69,7 @@ walk-to-spec =
     (tie.spec
     Inv-loop
     μ-loop
+    state-at-requires
     loop-holds
     go-requires
     same-length

@@ -1,0 +1,158 @@
+-- The walk to a solution, solution by solution. Assumes nothing.
+use mathlib.Core.Path.{_≡_, refl, sym, ap, _∙_}
+use mathlib.Core.Option.{Option, none, some}
+use mathlib.Core.List.{List, [], _∷_, _++_, append-nil}
+use Prim.Native.Nat.{ℕ, zero, suc, _-_, _≤_, _<_}
+use native.Mathlib.Omega.{arith}
+use denote.Enum.Declared as Declared
+use lib.IntN.{ℤ}
+use lib.ListN.{length}
+use types.Run.{OneOf}
+use Rattle.rules.specs.declared.NextAnswer.{NextAnswer}
+use Rattle.rules.proofs.NextAnswer as NextTypes
+use Rattle.rules.specs.declared.NextAnswer.the-variants as NextSays
+use Rattle.rules.specs.declared.Phase.{Phase}
+use Rattle.rules.specs.declared.Phase.the-variants.{Ready, Solution, Done}
+use Rattle.rules.specs.declared.State.{State}
+use Rattle.rules.specs.Problem.{Problem}
+use Rattle.rules.specs.Order.{Rule, pick}
+use Rattle.rules.specs.Walk.{Level, Move, Walk, End, solution, exhausted, paused, chosen, retreat, enter, stop, visiting, follow, at-point, walk, resume}
+use Rattle.rules.specs.Calls.{cap, capped, profile-from, blank, moved, started, next-answer}
+use Rattle.rules.specs.Door.{past, walk-to}
+use Rattle.problem.specs.CutLaws.{cannot}
+use Rattle.search.specs.Points.{On, Profile, Ran, Begun}
+use Rattle.search.specs.Arrived.{later, visits-to, Arrived, solved, unsolved, on-level}
+use Rattle.search.proofs.Running.{profile-fits, profile-then}
+
+-- ---- the allowance
+
+follow-few : (o : Option Move) (k : List Level → Walk) (a : ℕ) → ((t : List Level) → length (k t .visited) ≤ a) → length (follow o k .visited) ≤ a
+follow-few none k a h = omega arith
+follow-few (some m) k a h = h (m .to)
+
+walk-few : (P : Problem) (rule : Rule) (a : ℕ) (s : List Level) → length (walk P rule a s .visited) ≤ a
+unfolding walk
+walk-few P rule zero s = by (rule (chosen s))
+  where
+    by : (o : Option ℕ) → length (at-point s o (λ i. stop paused s) .visited) ≤ 0
+    by none = omega arith
+    by (some i) = omega arith
+walk-few P rule (suc a) s = by (rule (chosen s)) (λ t. walk-few P rule a t)
+  where
+    by : (o : Option ℕ) → ((t : List Level) → length (walk P rule a t .visited) ≤ a)
+        → length (at-point s o (λ i. visiting (length s) (follow (enter P s i) (λ t. walk P rule a t))) .visited) ≤ suc a
+    by none rec = omega arith
+    by (some i) rec = let f = follow-few (enter P s i) (λ t. walk P rule a t) a rec in omega arith
+
+-- a walk makes no more visits than it is allowed
+resume-few : (P : Problem) (rule : Rule) (a : ℕ) (ph : Phase) (s : List Level) → length (resume P rule a ph s .visited) ≤ a
+unfolding resume
+resume-few P rule a Ready s = walk-few P rule a s
+resume-few P rule a Solution s = follow-few (retreat P s) (λ t. walk P rule a t) a (λ t. walk-few P rule a t)
+resume-few P rule a Done s = walk-few P rule a []
+
+-- ---- the solutions on the way
+
+module _ (P : Problem) (rule : Rule) (k a : ℕ) (ph : Phase) (s : List Level) where
+  abbrev first : Walk
+  first = resume P rule a ph s
+
+  -- the first walk is the whole
+  abbrev Whole : Type 0
+  Whole = (walk-to P rule k a ph s ≡ first) × (visits-to P rule k a ph s ≡ first .visited)
+
+  walk-last : k ≡ 0 → Whole
+  unfolding walk-to visits-to
+  walk-last z = (rw z refl, rw z refl)
+
+-- where it ended at a solution, the next one begins there
+walk-on : (P : Problem) (rule : Rule) (k a : ℕ) (ph : Phase) (s : List Level) → 0 < k → first P rule k a ph s .end ≡ solution
+    → let w : Walk = first P rule k a ph s in
+    (walk-to P rule k a ph s ≡ walk-to P rule (k - 1) (a - length (w .visited)) Solution (w .at))
+    × (visits-to P rule k a ph s ≡ w .visited ++ visits-to P rule (k - 1) (a - length (w .visited)) Solution (w .at))
+unfolding walk-to visits-to
+walk-on P rule zero a ph s z e = absurd (omega arith)
+walk-on P rule (suc k) a ph s z e =
+    let w : Walk = resume P rule a ph s in
+    let b : ℕ = a - length (w .visited) in
+    let u : k ≡ suc k - 1 = omega arith in (
+      ap (λ (x : End). past x w (λ t. walk-to P rule k b Solution t)) e ∙ ap (λ (i : ℕ). walk-to P rule i b Solution (w .at)) u,
+      ap (λ (x : End). w .visited ++ later x (visits-to P rule k b Solution (w .at))) e ∙ ap (λ (i : ℕ). w .visited ++ visits-to P rule i b Solution (w .at)) u,
+    )
+
+walk-stop : (P : Problem) (rule : Rule) (k a : ℕ) (ph : Phase) (s : List Level) → (first P rule k a ph s .end ≡ solution → ⊥) → Whole P rule k a ph s
+unfolding walk-to visits-to
+walk-stop P rule zero a ph s n = (refl, refl)
+walk-stop P rule (suc k) a ph s n = by (resume P rule a ph s) (resume P rule a ph s .end) n
+  where
+    by : (w : Walk) (e : End) → (e ≡ solution → ⊥)
+        → (past e w (λ t. walk-to P rule k (a - length (w .visited)) Solution t) ≡ w)
+        × (w .visited ++ later e (visits-to P rule k (a - length (w .visited)) Solution (w .at)) ≡ w .visited)
+    by w solution n = absurd (n refl)
+    by w exhausted n = (refl, append-nil (w .visited))
+    by w paused n = (refl, append-nil (w .visited))
+
+-- ---- the loop
+
+-- the walk to the solution asked for is the walk from here to one `ahead` solutions on
+pub record Walking (P : Problem) (n number allowance : ℕ) (profile₀ : List ℕ) (t path : List ℤ) (profile : List ℕ) (state : State) (left ahead : ℕ) : Type 0 where
+  pub s : List Level
+  pub begun : Begun P n s t path state
+  pub counts : Profile (length path) profile
+  pub small : state .updates ≤ cap
+  pub same : walk-to P (pick P) number allowance Ready [] ≡ walk-to P (pick P) ahead left (state .phase) s
+  pub told : profile-from 0 (visits-to P (pick P) number allowance Ready []) profile₀ ≡ profile-from 0 (visits-to P (pick P) ahead left (state .phase) s) profile
+
+pub walk-start : {P : Problem} {n : ℕ} (number allowance : ℕ) {t path : List ℤ} {profile : List ℕ} → On P n [] t path 0 → Profile (length path) profile
+    → {state : State} → state ≡ blank → Walking P n number allowance profile t path profile state allowance number
+walk-start number allowance O p e = rw e (record { s = []; begun = record { on = O; done-top = λ e. refl }; counts = p; small = omega arith; same = refl; told = refl })
+
+module _ {P : Problem} {n number allowance : ℕ} {profile₀ : List ℕ} {t path : List ℤ} {profile : List ℕ} {state : State} {left ahead : ℕ} (W : Walking P n number allowance profile₀ t path profile state left ahead) where
+  abbrev pub piece : Walk
+  piece = resume P (pick P) left (state .phase) (W .s)
+
+  -- where the walk to the solution asked for arrives
+  abbrev pub Arrives : List ℤ → List ℤ → List ℕ → NextAnswer → Type 0
+  Arrives t′ path′ profile′ r = Arrived P n (walk-to P (pick P) number allowance Ready []) (visits-to P (pick P) number allowance Ready []) profile₀ t′ path′ profile′ r
+
+  module _ {t′ path′ : List ℤ} {profile′ : List ℕ} {r : NextAnswer} (R : Ran P n piece (started state) profile t′ path′ profile′ r) where
+    arrives : Whole P (pick P) ahead left (state .phase) (W .s) → Arrives t′ path′ profile′ r
+    arrives (e, u) =
+        let v = R .profile-is ∙ sym (W .told ∙ ap (λ (l : List ℕ). profile-from 0 l profile) u) in
+        rw (W .same ∙ e) (record { from = started state; answer = R .answer; on = R .on; profile-is = v })
+
+    pub walk-ends : ahead ≡ 0 → Arrives t′ path′ profile′ r
+    walk-ends z = arrives (walk-last P (pick P) ahead left (state .phase) (W .s) z)
+
+    pub walk-stops : OneOf (1 ∷ 2 ∷ 3 ∷ []) (Declared.tagOf NextTypes.the-type r) → Arrives t′ path′ profile′ r
+    walk-stops k = arrives (walk-stop P (pick P) ahead left (state .phase) (W .s) (unsolved piece (started state) (R .answer) k))
+
+    module _ {at : State} {v : ℕ} (q : r ≡ NextSays.Solution at v) where
+      pub visits-few : v ≤ left
+      visits-few = omega (arith, solved piece (started state) (R .answer) q .2, resume-few P (pick P) left (state .phase) (W .s))
+
+      pub walk-turns : (ahead ≡ 0 → ⊥) → length path′ ≡ length path → Walking P n number allowance profile₀ t′ path′ profile′ at (left - v) (ahead - 1)
+      walk-turns z l =
+          let (e, a, u) = solved piece (started state) (R .answer) q in
+          let d : at .depth ≡ length (piece .at) = ap (λ (x : State). x .depth) a in
+          let h : at .phase ≡ Solution = ap (λ (x : State). x .phase) a in
+          let b : at .updates ≡ capped (started state .updates) (piece .updates) = ap (λ (x : State). x .updates) a in
+          let c : Profile (length path) profile′ = rw (R .profile-is) (profile-fits (piece .visited) (W .counts)) in
+          let (o, p) = walk-on P (pick P) ahead left (state .phase) (W .s) (omega arith) e in
+          let next : ℕ → Phase → List ℕ = λ i x. visits-to P (pick P) (ahead - 1) (left - i) x (piece .at) in
+          record {
+            s = piece .at;
+            begun = record { on = on-level (R .on) d; done-top = λ e′. cannot (cc) };
+            counts = record { long = c .long ∙ sym l; small = c .small };
+            small = omega arith;
+            same =
+                W .same ∙ o
+                ∙ ap (λ (i : ℕ). walk-to P (pick P) (ahead - 1) (left - i) Solution (piece .at)) (sym u)
+                ∙ ap (λ (x : Phase). walk-to P (pick P) (ahead - 1) (left - v) x (piece .at)) (sym h);
+            told =
+                W .told ∙ ap (λ (k : List ℕ). profile-from 0 k profile) p
+                ∙ profile-then (piece .visited) (next (length (piece .visited)) Solution) (W .counts)
+                ∙ ap (profile-from 0 (next (length (piece .visited)) Solution)) (sym (R .profile-is))
+                ∙ ap (λ (i : ℕ). profile-from 0 (next i Solution) profile′) (sym u)
+                ∙ ap (λ (x : Phase). profile-from 0 (next v x) profile′) (sym h);
+          }
