@@ -2,9 +2,9 @@
 use mathlib.Core.Path.{_≡_, refl, sym, ap, _∙_}
 use mathlib.Core.Option.{Option, some}
 use mathlib.Core.List.{List, [], _++_}
-use Prim.Native.Nat.{ℕ, zero, suc, _-_, _<_, min}
+use Prim.Native.Nat.{ℕ, zero, suc, _<_, min}
 use native.Mathlib.Omega.{arith}
-use lib.IntN.{ℤ, pos}
+use lib.IntN.{ℤ}
 use lib.ListN.{length, take, drop, replicate}
 use Rattle.rules.specs.declared.GiveUpAnswer.the-variants as GiveUpSays
 use Rattle.rules.specs.declared.NextAnswer.{NextAnswer}
@@ -15,7 +15,7 @@ use Rattle.rules.specs.Lists.{over}
 use Rattle.rules.specs.Problem.{Problem, library-limits, cut, meant, sizes, problem-refusal}
 use Rattle.rules.specs.Order.{pick}
 use Rattle.rules.specs.Links.{fresh, table}
-use Rattle.rules.specs.Walk.{Level, Walk, made, resume, in-order}
+use Rattle.rules.specs.Walk.{Level, Walk, made, resume}
 use Rattle.rules.specs.Calls.{counts-fit, profile-from, blank, moved, given-up, started, path-words, lent-point, search-refusal, next-answer, found-words, SetUpLent, set-up-room, set-up-as, set-up-call, NextLent, next-room, next-as, next-call, GiveUpLent, give-up-room, give-up-as, give-up-call}
 use Rattle.problem.specs.Room.{room}
 use Rattle.calls.specs.Tested.{refusal, spare-by}

@@ -1,7 +1,6 @@
 -- What is written of a walk. Assumes nothing.
 use mathlib.Core.Path.{_≡_, refl}
 use mathlib.Core.List.{List, [], _∷_, map}
-use Prim.Native.Nat.{ℕ}
 use denote.Enum.Declared as Declared
 use lib.IntN.{ℤ, pos}
 use lib.ListN.{length}
@@ -10,7 +9,7 @@ use Rattle.rules.specs.declared.NextAnswer.{NextAnswer}
 use Rattle.rules.proofs.NextAnswer as NextTypes
 use Rattle.rules.specs.declared.State.{State}
 use Rattle.rules.specs.Lists.{over}
-use Rattle.rules.specs.Walk.{Level, Walk, End, solution, exhausted, paused, numbers}
+use Rattle.rules.specs.Walk.{Walk, End, solution, exhausted, paused, numbers}
 use Rattle.rules.specs.Calls.{moved, next-answer, found-words}
 use Rattle.search.specs.Arrived.{unsolved}
 

@@ -17,7 +17,7 @@ use Rattle.rules.specs.declared.State.{State}
 use Rattle.rules.specs.Problem.{Problem}
 use Rattle.rules.specs.Order.{Rule, pick}
 use Rattle.rules.specs.Walk.{Level, Move, Walk, End, solution, exhausted, paused, chosen, retreat, enter, stop, visiting, follow, at-point, walk, resume}
-use Rattle.rules.specs.Calls.{cap, capped, profile-from, blank, moved, started, next-answer}
+use Rattle.rules.specs.Calls.{cap, capped, profile-from, blank, started}
 use Rattle.rules.specs.Door.{past, walk-to}
 use Rattle.problem.specs.CutLaws.{cannot}
 use Rattle.search.specs.Points.{On, Profile, Ran, Begun}

@@ -2,7 +2,7 @@
 use mathlib.Core.Path.{_≡_, refl, ap, _∙_}
 use mathlib.Core.Logic.{⊎-elim}
 use mathlib.Core.List.{List, [], _∷_, _++_}
-use Prim.Native.Nat.{ℕ, zero, suc, _-_, _≤_}
+use Prim.Native.Nat.{ℕ, zero, suc, _-_}
 use native.Mathlib.Omega.{arith}
 use denote.Enum.Declared as Declared
 use lib.IntN.{ℤ}
@@ -52,15 +52,16 @@ solved w st {r} {at} {v} p q = by (w .end) p
     by exhausted p = cannot (cc)
     by paused p = cannot (cc)
 
+-- an answer of another kind is no solution
+pub other : OneOf (1 ∷ 2 ∷ 3 ∷ []) 0 → ⊥
+other k = ⊎-elim (λ a. omega arith) (λ m. ⊎-elim (λ a. omega arith) (λ a. omega arith) m) k
+
 -- a walk that answers anything else ended elsewhere
 pub unsolved : (w : Walk) (st : State) {r : NextAnswer} → r ≡ next-answer (w .end) (moved st w) (length (w .visited))
     → OneOf (1 ∷ 2 ∷ 3 ∷ []) (Declared.tagOf NextTypes.the-type r) → w .end ≡ solution → ⊥
 unsolved w st {r} p k e =
     let q : r ≡ NextSays.Solution (moved st w) (length (w .visited)) = p ∙ ap (λ (x : End). next-answer x (moved st w) (length (w .visited))) e in
-    no (rw q at k)
-  where
-    no : OneOf (1 ∷ 2 ∷ 3 ∷ []) 0 → ⊥
-    no k = ⊎-elim (λ a. omega arith) (λ m. ⊎-elim (λ a. omega arith) (λ a. omega arith) m) k
+    other (rw q at k)
 
 pub on-level : {P : Problem} {n : ℕ} {s : List Level} {t path : List ℤ} {l k : ℕ} → On P n s t path l → k ≡ length s → On P n s t path k
 on-level O e = record { at = O .at; path-is = O .path-is; level = e }
