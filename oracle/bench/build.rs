@@ -1,9 +1,9 @@
 fn main() {
-    println!("cargo:rerun-if-env-changed=DOOR_FOLDER");
-    if std::env::var_os("CARGO_FEATURE_DOOR").is_some() {
-        let folder = std::env::var("DOOR_FOLDER").expect("DOOR_FOLDER names the folder of libdoor.a");
-        println!("cargo:rerun-if-changed={folder}/libdoor.a");
+    println!("cargo:rerun-if-env-changed=TIMED_FOLDER");
+    if std::env::var_os("CARGO_FEATURE_TIMED").is_some() {
+        let folder = std::env::var("TIMED_FOLDER").expect("TIMED_FOLDER names the folder of libtimed.a");
+        println!("cargo:rerun-if-changed={folder}/libtimed.a");
         println!("cargo:rustc-link-search=native={folder}");
-        println!("cargo:rustc-link-lib=static=door");
+        println!("cargo:rustc-link-lib=static=timed");
     }
 }

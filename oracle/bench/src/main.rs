@@ -1,8 +1,8 @@
-//! Times of a whole search, every solution and its option numbers, with set-up apart; with the host door, of set-up
-//! and search together. The contestants take turns, so that whatever else the machine does falls on all of them.
+//! Times of a whole search, all solutions, with set-up apart. The contestants take turns, so that whatever else the
+//! machine does falls on all of them.
 
-#[cfg(feature = "door")]
-mod door;
+#[cfg(feature = "timed")]
+mod proved;
 
 use std::hint::black_box;
 use std::time::{Duration, Instant};
@@ -22,6 +22,7 @@ struct Turn {
 struct Problem {
     name: &'static str,
     words: Vec<i32>,
+    solutions: u64,
     is_coloured: bool,
 }
 
@@ -29,6 +30,12 @@ struct Contestant {
     name: &'static str,
     takes_colours: bool,
     turn: fn(&Problem) -> Turn,
+}
+
+/// A contestant in a problem.
+struct Entry {
+    contestant: Contestant,
+    turns: Vec<Turn>,
 }
 
 fn timed<P>(set_up: impl FnOnce() -> P, search: impl FnOnce(&mut P) -> u64) -> Turn {
@@ -44,7 +51,7 @@ fn without_colours(options: &Options) -> Vec<Vec<u32>> {
     options.iter().map(|option| option.iter().map(|&(item, _)| item).collect()).collect()
 }
 
-/// One build of dlx, by c.rs and by x.rs.
+/// One build of dlx, by c.rs and by x.rs; with the option numbers of each solution or without.
 macro_rules! contestants_of {
     ($module:ident, $dlx:ident) => {
         mod $module {
@@ -52,45 +59,28 @@ macro_rules! contestants_of {
             use $dlx::choose::{mrv_chooser, no_tiebreak, prefer_any};
             use $dlx::{OptOrder, Solve, Solver};
 
-            fn search<P: Solve>(problem: &mut P) -> u64 {
+            fn search<P: Solve, const NUMBERS: bool>(problem: &mut P) -> u64 {
                 let mut solver = Solver::new(problem);
                 let mut chooser = mrv_chooser(prefer_any(), no_tiebreak());
                 let mut solutions = 0;
                 while solver.next_solution(&mut chooser) {
-                    black_box(solver.fmt_solution());
+                    if NUMBERS {
+                        black_box(solver.fmt_solution());
+                    }
                     solutions += 1;
                 }
                 solutions
             }
 
-            /// Set-up and search by c.rs, without option numbers.
-            #[cfg(feature = "door")]
-            pub fn whole(problem: &Problem) -> Turn {
+            pub fn c<const NUMBERS: bool>(problem: &Problem) -> Turn {
                 let (np, ns, options) = as_options(&problem.words);
-                timed(
-                    || (),
-                    |()| {
-                        let mut problem = $dlx::c::make_problem(np, ns, &options, OptOrder::Seq);
-                        let mut solver = Solver::new(&mut problem);
-                        let mut chooser = mrv_chooser(prefer_any(), no_tiebreak());
-                        let mut solutions = 0;
-                        while solver.next_solution(&mut chooser) {
-                            solutions += 1;
-                        }
-                        solutions
-                    },
-                )
+                timed(|| $dlx::c::make_problem(np, ns, &options, OptOrder::Seq), search::<_, NUMBERS>)
             }
 
-            pub fn c(problem: &Problem) -> Turn {
-                let (np, ns, options) = as_options(&problem.words);
-                timed(|| $dlx::c::make_problem(np, ns, &options, OptOrder::Seq), search)
-            }
-
-            pub fn x(problem: &Problem) -> Turn {
+            pub fn x<const NUMBERS: bool>(problem: &Problem) -> Turn {
                 let (np, ns, options) = as_options(&problem.words);
                 let options = without_colours(&options);
-                timed(|| $dlx::x::make_problem(np, ns, &options, OptOrder::Seq), search)
+                timed(|| $dlx::x::make_problem(np, ns, &options, OptOrder::Seq), search::<_, NUMBERS>)
             }
         }
     };
@@ -99,78 +89,75 @@ macro_rules! contestants_of {
 contestants_of!(tested, dlx);
 contestants_of!(untested, dlx_untested);
 
-fn contestants() -> Vec<Contestant> {
-    vec![
-        Contestant { name: "c.rs", takes_colours: true, turn: tested::c },
-        Contestant { name: "c.rs, unsafe-fast-index", takes_colours: true, turn: untested::c },
-        Contestant { name: "x.rs", takes_colours: false, turn: tested::x },
-        Contestant { name: "x.rs, unsafe-fast-index", takes_colours: false, turn: untested::x },
-    ]
+/// Those that count the solutions, or take the option numbers of each as well. The first is what the others are
+/// compared with.
+fn contestants<const NUMBERS: bool>() -> Vec<Contestant> {
+    Vec::from([
+        Contestant { name: "c.rs", takes_colours: true, turn: tested::c::<NUMBERS> },
+        Contestant { name: "c.rs, unsafe-fast-index", takes_colours: true, turn: untested::c::<NUMBERS> },
+        Contestant { name: "x.rs", takes_colours: false, turn: tested::x::<NUMBERS> },
+        Contestant { name: "x.rs, unsafe-fast-index", takes_colours: false, turn: untested::x::<NUMBERS> },
+        #[cfg(feature = "timed")]
+        proved::contestant(NUMBERS),
+    ])
 }
 
-/// Of set-up and search together.
-#[cfg(feature = "door")]
-fn contestants_through_the_door() -> Vec<Contestant> {
-    vec![
-        Contestant { name: "c.rs", takes_colours: true, turn: tested::whole },
-        Contestant { name: "c.rs, unsafe-fast-index", takes_colours: true, turn: untested::whole },
-        Contestant { name: "host_door", takes_colours: true, turn: door::whole },
-    ]
+fn entries<const NUMBERS: bool>(problem: &Problem) -> Vec<Entry> {
+    contestants::<NUMBERS>()
+        .into_iter()
+        .filter(|contestant| contestant.takes_colours || !problem.is_coloured)
+        .map(|contestant| Entry { contestant, turns: Vec::new() })
+        .collect()
 }
 
-fn median(mut times: Vec<Duration>) -> Duration {
+/// The least of the times, which a loaded machine disturbs least, and the median.
+fn summary(times: impl Iterator<Item = Duration>) -> (Duration, Duration) {
+    let mut times: Vec<Duration> = times.collect();
     times.sort();
-    times[times.len() / 2]
+    (times[0], times[times.len() / 2])
 }
 
-/// What a loaded machine disturbs least.
-fn least_search(turns: &[Turn]) -> Duration {
-    turns.iter().map(|turn| turn.search).min().expect("at least one round")
-}
-
-fn compete(problem: &Problem, contestants: Vec<Contestant>) {
-    let entered: Vec<Contestant> =
-        contestants.into_iter().filter(|contestant| contestant.takes_colours || !problem.is_coloured).collect();
-    let mut turns: Vec<Vec<Turn>> = entered.iter().map(|_| Vec::new()).collect();
-    for round in 0..=ROUNDS {
-        for (contestant, turns) in entered.iter().zip(&mut turns) {
-            let turn = (contestant.turn)(problem);
-            // The first round only warms up.
-            if round > 0 {
-                turns.push(turn);
-            }
-        }
-    }
-    println!("{}: {} solutions", problem.name, turns[0][0].solutions);
-    let base = least_search(&turns[0]).as_secs_f64();
-    for (contestant, own) in entered.iter().zip(&turns) {
-        assert!(own.iter().all(|turn| turn.solutions == turns[0][0].solutions), "{} counts otherwise", contestant.name);
-        let least = least_search(own);
-        let search = median(own.iter().map(|turn| turn.search).collect());
-        let set_up = median(own.iter().map(|turn| turn.set_up).collect());
-        let ratio = least.as_secs_f64() / base;
-        let name = contestant.name;
+fn show(entries: &[Entry]) {
+    let (base_least, base_median) = summary(entries[0].turns.iter().map(|turn| turn.search));
+    for entry in entries {
+        let name = entry.contestant.name;
+        let (least, median) = summary(entry.turns.iter().map(|turn| turn.search));
+        let (_, set_up) = summary(entry.turns.iter().map(|turn| turn.set_up));
+        let by_least = least.as_secs_f64() / base_least.as_secs_f64();
+        let by_median = median.as_secs_f64() / base_median.as_secs_f64();
         println!(
-            "  {name:24} least {least:>10.3?} ({ratio:.2} of c.rs), median {search:>10.3?}, set-up {set_up:>9.2?}"
+            "    {name:24} least {least:>10.3?} ({by_least:.2}), median {median:>10.3?} ({by_median:.2}), set-up {set_up:>8.1?}"
         );
     }
 }
 
-fn main() {
-    println!("{ROUNDS} rounds; set-up is a median");
-    for problem in [
-        Problem { name: "ten queens", words: queens(10), is_coloured: false },
-        Problem { name: "eleven queens", words: queens(11), is_coloured: false },
-        Problem { name: "twelve queens", words: queens(12), is_coloured: false },
-        Problem { name: "tiles, three by four, coloured edges", words: tiles(3, 4), is_coloured: true },
-    ] {
-        compete(&problem, contestants());
+fn compete(problem: &Problem) {
+    let mut classes = [entries::<false>(problem), entries::<true>(problem)];
+    for round in 0..=ROUNDS {
+        for entry in classes.iter_mut().flatten() {
+            let turn = (entry.contestant.turn)(problem);
+            assert_eq!(turn.solutions, problem.solutions, "{} counts otherwise", entry.contestant.name);
+            // The first round only warms up.
+            if round > 0 {
+                entry.turns.push(turn);
+            }
+        }
     }
-    #[cfg(feature = "door")]
+    println!("{}, {} solutions", problem.name, problem.solutions);
+    for (work, entries) in ["counted", "with option numbers"].into_iter().zip(&classes) {
+        println!("  {work}");
+        show(entries);
+    }
+}
+
+fn main() {
+    println!("{ROUNDS} rounds; in brackets the ratio to c.rs; set-up is a median");
     for problem in [
-        Problem { name: "eight queens, set-up within the search", words: queens(8), is_coloured: false },
-        Problem { name: "tiles, two by three, set-up within the search", words: tiles(2, 3), is_coloured: true },
+        Problem { name: "ten queens", words: queens(10), solutions: 724, is_coloured: false },
+        Problem { name: "eleven queens", words: queens(11), solutions: 2_680, is_coloured: false },
+        Problem { name: "twelve queens", words: queens(12), solutions: 14_200, is_coloured: false },
+        Problem { name: "tiles, three by four", words: tiles(3, 4), solutions: 524_288, is_coloured: true },
     ] {
-        compete(&problem, contestants_through_the_door());
+        compete(&problem);
     }
 }
