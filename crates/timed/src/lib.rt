@@ -8,8 +8,8 @@ ghost use Rattle.timed.specs.Timed.{set-up-timed, walked, walk-timed, ne
 ghost use Rattle.timed.specs.Fronts.{Top};
 use calls::next;
 use calls::set_up;
+use init::table_words;
 use problem::check;
-use problem::table_words;
 use rules::NextAnswer;
 use rules::Phase;
 use rules::SetUpAnswer;

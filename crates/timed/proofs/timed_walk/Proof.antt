@@ -31,7 +31,7 @@ enum-known-s : tie.Need-enum-known-s
 enum-known-s c = search needs
 
 walk-fronts-requires : tie.Need-walk-fronts-requires
-walk-fronts-requires c κs = (_, at-top _ _ (c .before .before .before .before .before .before .before .before .before .before .before .before .before .timed-set-up .ensures) (c .before .before .before .before .before .before .before .before .if1 .left) (c .before .before .before .before .before .before .before .library .ensures) (c .before .before .before .before .before .before .check .ensures) (c .before .before .before .before .s .given .1))
+walk-fronts-requires c κs = (_, at-top _ _ (c .before .before .before .before .before .before .before .before .before .before .before .before .before .timed-set-up .ensures) (c .before .before .before .before .before .before .before .before .if1 .left) (c .before .before .before .before .before .before .before .library .ensures) (c .before .before .before .before .before .before .check .ensures .0) (c .before .before .before .before .s .given .1))
 
 number-of-requires : tie.Need-number-of-requires
 number-of-requires c κs = search needs
@@ -46,7 +46,7 @@ same-length-6 : tie.Need-same-length-6
 same-length-6 c = search needs
 
 returns-2 : tie.Need-returns-2
-returns-2 c = absurd (not-refused _ _ (c .before .before .before .before .before .before .before .before .before .before .timed-set-up .ensures) (c .before .before .before .before .before .if1 .left) (c .before .before .before .before .library .ensures) (c .before .before .before .check .ensures) (c .before .k .given .1))
+returns-2 c = absurd (not-refused _ _ (c .before .before .before .before .before .before .before .before .before .before .timed-set-up .ensures) (c .before .before .before .before .before .if1 .left) (c .before .before .before .before .library .ensures) (c .before .before .before .check .ensures .0) (c .before .k .given .1))
 
 same-length-7 : tie.Need-same-length-7
 same-length-7 c = search needs
@@ -59,7 +59,7 @@ same-length-9 c = search needs
 
 returns-3 : tie.Need-returns-3
 returns-3 c = let e = c .before .before .before .before .before .before .before .before .before .before .before .before .before .before .before .before .before .before .before .timed-set-up .ensures in
-    let T = at-top _ _ e (c .before .before .before .before .before .before .before .before .before .before .before .before .before .before .if1 .left) (c .before .before .before .before .before .before .before .before .before .before .before .before .before .library .ensures) (c .before .before .before .before .before .before .before .before .before .before .before .before .check .ensures) (c .before .before .before .before .before .before .before .before .before .before .s .given .1) in
+    let T = at-top _ _ e (c .before .before .before .before .before .before .before .before .before .before .before .before .before .before .if1 .left) (c .before .before .before .before .before .before .before .before .before .before .before .before .before .library .ensures) (c .before .before .before .before .before .before .before .before .before .before .before .before .check .ensures .0) (c .before .before .before .before .before .before .before .before .before .before .s .given .1) in
     walk-done _ _ e (c .before .before .before .before .before .before .before .before .before .before .before .before .before .before .if1 .left) (c .before .before .before .before .before .before .before .before .before .before .before .before .before .before .before .before .before .before .before .before .before .before .before .before .args .number) (rw (c .number-of .ensures) (c .before .before .before .before .before .walk-fronts .ensures _ T))
 
 pub timed-walk-spec : {M : Type 1} → statement M

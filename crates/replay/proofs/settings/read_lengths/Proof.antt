@@ -79,13 +79,13 @@ returns-7 c =
     let the-profile = c .before .before .before .before .before .before .profile in
     let number-at5 = c .before .before .before .before .number-at5 in
     record {
-  problem = pre;
-  table = at-most (number-at .ensures) (the-table .given .1);
-  spare = at-most (number-at2 .ensures) (the-spare .given .1);
-  path = at-most (number-at3 .ensures) (the-path .given .1);
-  profile = at-most (number-at4 .ensures) (the-profile .given .1);
-  found = at-most (number-at5 .ensures) (c .before .before .found .given .1);
-}
+      problem = pre;
+      table = at-most (number-at .ensures) (the-table .given .1);
+      spare = at-most (number-at2 .ensures) (the-spare .given .1);
+      path = at-most (number-at3 .ensures) (the-path .given .1);
+      profile = at-most (number-at4 .ensures) (the-profile .given .1);
+      found = at-most (number-at5 .ensures) (c .before .before .found .given .1);
+    }
 
 pub read-lengths-spec : {M : Type 1} → statement M
 read-lengths-spec =
