@@ -131,15 +131,15 @@ module _ {P : Problem} {n number allowance : ℕ} {profile₀ : List ℕ} {t pat
       pub visits-few : v ≤ left
       visits-few = omega (arith, solved piece (started state) (R .answer) q .2, resume-few P (pick P) left (state .phase) (W .s))
 
-      pub walk-turns : (ahead ≡ 0 → ⊥) → length path′ ≡ length path → Walking P n number allowance profile₀ t′ path′ profile′ at (left - v) (ahead - 1)
+      pub walk-turns : (ahead ≡ 0 → ⊥) → length path′ ≡ length path
+          → Walking P n number allowance profile₀ t′ path′ profile′ (record { phase = Solution; depth = at .depth; updates = at .updates }) (left - v) (ahead - 1)
       walk-turns z l =
           let (e, a, u) = solved piece (started state) (R .answer) q in
           let d : at .depth ≡ length (piece .at) = ap (λ (x : State). x .depth) a in
-          let h : at .phase ≡ Solution = ap (λ (x : State). x .phase) a in
           let b : at .updates ≡ capped (started state .updates) (piece .updates) = ap (λ (x : State). x .updates) a in
           let c : Profile (length path) profile′ = rw (R .profile-is) (profile-fits (piece .visited) (W .counts)) in
           let (o, p) = walk-on P (pick P) ahead left (state .phase) (W .s) (omega arith) e in
-          let next : ℕ → Phase → List ℕ = λ i x. visits-to P (pick P) (ahead - 1) (left - i) x (piece .at) in
+          let next : ℕ → List ℕ = λ i. visits-to P (pick P) (ahead - 1) (left - i) Solution (piece .at) in
           record {
             s = piece .at;
             begun = record { on = on-level (R .on) d; done-top = λ e′. cannot (cc) };
@@ -147,12 +147,10 @@ module _ {P : Problem} {n number allowance : ℕ} {profile₀ : List ℕ} {t pat
             small = omega arith;
             same =
                 W .same ∙ o
-                ∙ ap (λ (i : ℕ). walk-to P (pick P) (ahead - 1) (left - i) Solution (piece .at)) (sym u)
-                ∙ ap (λ (x : Phase). walk-to P (pick P) (ahead - 1) (left - v) x (piece .at)) (sym h);
+                ∙ ap (λ (i : ℕ). walk-to P (pick P) (ahead - 1) (left - i) Solution (piece .at)) (sym u);
             told =
                 W .told ∙ ap (λ (k : List ℕ). profile-from 0 k profile) p
-                ∙ profile-then (piece .visited) (next (length (piece .visited)) Solution) (W .counts)
-                ∙ ap (profile-from 0 (next (length (piece .visited)) Solution)) (sym (R .profile-is))
-                ∙ ap (λ (i : ℕ). profile-from 0 (next i Solution) profile′) (sym u)
-                ∙ ap (λ (x : Phase). profile-from 0 (next v x) profile′) (sym h);
+                ∙ profile-then (piece .visited) (next (length (piece .visited))) (W .counts)
+                ∙ ap (profile-from 0 (next (length (piece .visited)))) (sym (R .profile-is))
+                ∙ ap (λ (i : ℕ). profile-from 0 (next i) profile′) (sym u);
           }

@@ -179,7 +179,12 @@ pub fn walk_to(
         let NextAnswer::Solution(at, visits) = answer else {
             return answer;
         };
-        state = at;
+        // Part by part: a copy of the whole would wait until the answer's parts are all in memory.
+        state = State {
+            phase: Phase::Solution,
+            depth: at.depth,
+            updates: at.updates,
+        };
         left -= visits;
         ahead -= 1;
     }
