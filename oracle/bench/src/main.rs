@@ -10,7 +10,7 @@ use std::time::{Duration, Instant};
 use judge::problems::{queens, tiles};
 use judge::trace::{Options, as_options};
 
-const ROUNDS: usize = 21;
+const ROUNDS: usize = 101;
 
 /// One set-up and one search.
 struct Turn {
@@ -117,17 +117,22 @@ fn summary(times: impl Iterator<Item = Duration>) -> (Duration, Duration) {
     (times[0], times[times.len() / 2])
 }
 
+fn ratio(own: Duration, base: Duration) -> f64 {
+    own.as_secs_f64() / base.as_secs_f64()
+}
+
 fn show(entries: &[Entry]) {
-    let (base_least, base_median) = summary(entries[0].turns.iter().map(|turn| turn.search));
-    for entry in entries {
-        let name = entry.contestant.name;
-        let (least, median) = summary(entry.turns.iter().map(|turn| turn.search));
-        let (_, set_up) = summary(entry.turns.iter().map(|turn| turn.set_up));
-        let by_least = least.as_secs_f64() / base_least.as_secs_f64();
-        let by_median = median.as_secs_f64() / base_median.as_secs_f64();
-        println!(
-            "    {name:24} least {least:>10.3?} ({by_least:.2}), median {median:>10.3?} ({by_median:.2}), set-up {set_up:>8.1?}"
-        );
+    let base = &entries[0].turns;
+    let (base_least, _) = summary(base.iter().map(|turn| turn.search));
+    for Entry { contestant: Contestant { name, .. }, turns } in entries {
+        let (least, median) = summary(turns.iter().map(|turn| turn.search));
+        let (_, set_up) = summary(turns.iter().map(|turn| turn.set_up));
+        let mut ratios: Vec<f64> = turns.iter().zip(base).map(|(own, base)| ratio(own.search, base.search)).collect();
+        ratios.sort_by(f64::total_cmp);
+        let [low, middle, high] = [1, 2, 3].map(|quarter| ratios[quarter * ratios.len() / 4]);
+        let by_least = ratio(least, base_least);
+        print!("    {name:24} least {least:>8.2?} ({by_least:.2}), ");
+        println!("median {median:>8.2?} ({middle:.2}, {low:.2} to {high:.2}), set-up {set_up:>7.1?}");
     }
 }
 
@@ -151,12 +156,14 @@ fn compete(problem: &Problem) {
 }
 
 fn main() {
-    println!("{ROUNDS} rounds; in brackets the ratio to c.rs; set-up is a median");
+    println!(
+        "{ROUNDS} rounds; in brackets the ratio to c.rs: of the least times, and in a round (median, middle half)"
+    );
     for problem in [
         Problem { name: "ten queens", words: queens(10), solutions: 724, is_coloured: false },
         Problem { name: "eleven queens", words: queens(11), solutions: 2_680, is_coloured: false },
         Problem { name: "twelve queens", words: queens(12), solutions: 14_200, is_coloured: false },
-        Problem { name: "tiles, three by four", words: tiles(3, 4), solutions: 524_288, is_coloured: true },
+        Problem { name: "tiles, three by three", words: tiles(3, 3), solutions: 32_768, is_coloured: true },
     ] {
         compete(&problem);
     }
