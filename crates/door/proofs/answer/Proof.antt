@@ -24,16 +24,32 @@ enum-known-s : tie.Need-enum-known-s
 enum-known-s c = search needs
 
 solve-requires : tie.Need-solve-requires
-solve-requires c κs = goes _ (c .before .before .before .before .before .before .before .before .before .before .args .out .now) (c .before .before .before .before .before .before .before .door .ensures) (c .before .before .before .before .before .before .before .before .lists-of .ensures) _ (c .before .before .before .before .before .accept .ensures) (omega arith) (c .before .before .s .given .1) .1
+solve-requires c κs =
+    let a = c .before .before .before .before .before .before .before .before .before .before .args in
+    let lists-of = c .before .before .before .before .before .before .before .before .lists-of in
+    let door = c .before .before .before .before .before .before .before .door in
+    let accept = c .before .before .before .before .before .accept in
+    goes _ (a .out .now) (door .ensures) (lists-of .ensures) _ (accept .ensures) (omega arith) (c .before .before .s .given .1) .1
 
 returns : tie.Need-returns
-returns c = let x = stops (c .before .before .before .before .before .before .before .before .before .args .problem .now) (c .before .before .before .before .before .before .before .before .before .args .out .now) (c .before .before .before .before .before .before .door .ensures) (c .before .before .before .before .before .before .before .lists-of .ensures) _ (c .before .before .before .before .accept .ensures) (omega arith) (c .before .k .given .1) in answer-refused (meant (cut (c .before .before .before .before .before .before .before .before .before .args .problem .now))) (c .before .before .before .before .before .before .before .before .before .args .number) (c .before .before .before .before .before .before .before .before .before .args .allowance) (c .before .before .before .before .before .before .before .before .before .args .out .now) (x .0) (x .1)
+returns c =
+    let a = c .before .before .before .before .before .before .before .before .before .args in
+    let lists-of = c .before .before .before .before .before .before .before .lists-of in
+    let door = c .before .before .before .before .before .before .door in
+    let accept = c .before .before .before .before .accept in
+    let x = stops (a .problem .now) (a .out .now) (door .ensures) (lists-of .ensures) _ (accept .ensures) (omega arith) (c .before .k .given .1) in answer-refused (meant (cut (a .problem .now))) (a .number) (a .allowance) (a .out .now) (x .0) (x .1)
 
 same-length : tie.Need-same-length
 same-length c = search needs
 
 returns-2 : tie.Need-returns-2
-returns-2 c = answer-walked (meant (cut (c .before .before .before .before .before .before .before .before .before .before .before .before .before .args .problem .now))) (c .before .before .before .before .before .before .before .before .before .before .before .before .before .args .number) (c .before .before .before .before .before .before .before .before .before .before .before .before .before .args .allowance) (c .before .before .before .before .before .before .before .before .before .before .before .before .before .args .out .now) (goes (c .before .before .before .before .before .before .before .before .before .before .before .before .before .args .problem .now) (c .before .before .before .before .before .before .before .before .before .before .before .before .before .args .out .now) (c .before .before .before .before .before .before .before .before .before .before .door .ensures) (c .before .before .before .before .before .before .before .before .before .before .before .lists-of .ensures) _ (c .before .before .before .before .before .before .before .before .accept .ensures) (omega arith) (c .before .before .before .before .before .s .given .1) .0) (c .before .before .solve .ensures)
+returns-2 c =
+    let a = c .before .before .before .before .before .before .before .before .before .before .before .before .before .args in
+    let lists-of = c .before .before .before .before .before .before .before .before .before .before .before .lists-of in
+    let door = c .before .before .before .before .before .before .before .before .before .before .door in
+    let accept = c .before .before .before .before .before .before .before .before .accept in
+    let s = c .before .before .before .before .before .s in
+    answer-walked (meant (cut (a .problem .now))) (a .number) (a .allowance) (a .out .now) (goes (a .problem .now) (a .out .now) (door .ensures) (lists-of .ensures) _ (accept .ensures) (omega arith) (s .given .1) .0) (c .before .before .solve .ensures)
 
 pub answer-spec : {M : Type 1} → statement M
 answer-spec =

@@ -18,7 +18,9 @@ long-refusal-requires : tie.Need-long-refusal-requires
 long-refusal-requires c κs = search needs
 
 returns-2 : tie.Need-returns-2
-returns-2 c = call-refused (c .before .before .before .before .before .args .problem .now) (c .before .before .before .before .before .args .number) (c .before .before .before .before .before .args .allowance) (c .before .before .before .before .before .args .out .now) (c .before .before .if1 .left) (c .long-refusal .ensures)
+returns-2 c =
+    let a = c .before .before .before .before .before .args in
+    call-refused (a .problem .now) (a .number) (a .allowance) (a .out .now) (c .before .before .if1 .left) (c .long-refusal .ensures)
 
 array-borrow-prefix-words : tie.Need-array-borrow-prefix-words
 array-borrow-prefix-words c = search needs
@@ -51,7 +53,11 @@ same-length : tie.Need-same-length
 same-length c = search needs
 
 returns-3 : tie.Need-returns-3
-returns-3 c = call-words (c .before .before .before .before .before .before .before .before .before .before .before .before .args .problem .now) (c .before .before .before .before .before .before .before .before .before .before .before .before .args .number) (c .before .before .before .before .before .before .before .before .before .before .before .before .args .allowance) (c .before .before .before .before .before .before .before .before .before .before .before .before .args .out .now) (c .before .before .before .before .before .before .before .before .before .if1 .left) (take-at _ _ _ (filled (c .before .before .before .before .before .before)) ∙ words-are (c .before .before .before .before .before .before)) (c .before .before .answer .ensures)
+returns-3 c =
+    let a = c .before .before .before .before .before .before .before .before .before .before .before .before .args in
+    let if1 = c .before .before .before .before .before .before .before .before .before .if1 in
+    let d = c .before .before .before .before .before .before in
+    call-words (a .problem .now) (a .number) (a .allowance) (a .out .now) (if1 .left) (take-at _ _ _ (filled d) ∙ words-are d) (c .before .before .answer .ensures)
 
 pub host-door-spec : {M : Type 1} → statement M
 host-door-spec =

@@ -24,7 +24,10 @@ abbrev μ-loop : tie.MeasureT-loop
 word-is : (q : tie.After-take-word Inv-loop μ-loop) → word (q .take-word .last .1 .1 .0) 0 ≡ word (bytes-words (q .before .before .before .before .before .before .args .bytes .now)) (q .before .before .before .before .loop .at)
 word-is q = ap (λ (l : List ℤ). word l 0) (q .take-word .ensures) ∙ sym (word-at (q .before .before .before .before .before .before .args .bytes .now) (q .before .before .before .before .loop .at) (omega arith))
 
-count-is : (q : tie.After-link-at Inv-loop μ-loop) → word (bytes-words (q .before .before .before .before .before .before .before .before .before .before .before .before .args .bytes .now)) (q .before .before .before .before .before .before .before .before .before .before .loop .at) ≡ pos (q .link-at .result)
+count-is : (q : tie.After-link-at Inv-loop μ-loop)
+    → let a = q .before .before .before .before .before .before .before .before .before .before .before .before .args in
+    let loop = q .before .before .before .before .before .before .before .before .before .before .loop in
+    word (bytes-words (a .bytes .now)) (loop .at) ≡ pos (q .link-at .result)
 count-is q = sym (word-is (q .before .before .before .before .before .before)) ∙ q .link-at .ensures .word-is
 
 loop-holds : tie.Need-loop-holds Inv-loop μ-loop
@@ -49,7 +52,11 @@ is-natural-requires : tie.Need-is-natural-requires Inv-loop μ-loop
 is-natural-requires c κs = search needs
 
 returns-2 : tie.Need-returns-2 Inv-loop μ-loop
-returns-2 c = cut-negative (c .before .before .before .before .before .before .before .before .loop .inv) (omega arith) (omega (arith, words-long (c .before .before .before .before .before .before .before .before .before .before .args .bytes .now) .1)) (ap nonNeg (sym (word-is (c .before .before .before .before))) ∙ sym (c .before .is-natural .ensures) ∙ not-true _ (c .if2 .taken))
+returns-2 c =
+    let a = c .before .before .before .before .before .before .before .before .before .before .args in
+    let loop = c .before .before .before .before .before .before .before .before .loop in
+    let d = c .before .before .before .before in
+    cut-negative (loop .inv) (omega arith) (omega (arith, words-long (a .bytes .now) .1)) (ap nonNeg (sym (word-is d)) ∙ sym (c .before .is-natural .ensures) ∙ not-true _ (c .if2 .taken))
 
 slice-aggregate-link-at : tie.Need-slice-aggregate-link-at Inv-loop μ-loop
 slice-aggregate-link-at c = search needs
@@ -67,7 +74,10 @@ mul-if3 : tie.Need-mul-if3 Inv-loop μ-loop
 mul-if3 c = omega (arith, c .link-at .ensures .small)
 
 returns-3 : tie.Need-returns-3 Inv-loop μ-loop
-returns-3 c = cut-short (c .before .before .before .before .before .before .before .before .before .before .before .loop .inv) (omega arith) (omega (arith, words-long (c .before .before .before .before .before .before .before .before .before .before .before .before .before .args .bytes .now) .1)) (c .before .link-at .result) (count-is (c .before)) (omega (arith, words-long (c .before .before .before .before .before .before .before .before .before .before .before .before .before .args .bytes .now) .0, words-long (c .before .before .before .before .before .before .before .before .before .before .before .before .before .args .bytes .now) .1))
+returns-3 c =
+    let a = c .before .before .before .before .before .before .before .before .before .before .before .before .before .args in
+    let loop = c .before .before .before .before .before .before .before .before .before .before .before .loop in
+    cut-short (loop .inv) (omega arith) (omega (arith, words-long (a .bytes .now) .1)) (c .before .link-at .result) (count-is (c .before)) (omega (arith, words-long (a .bytes .now) .0, words-long (a .bytes .now) .1))
 
 mul-at : tie.Need-mul-at Inv-loop μ-loop
 mul-at c = omega (arith, c .before .link-at .ensures .small)
@@ -85,7 +95,10 @@ loop-less : tie.Need-loop-less Inv-loop μ-loop
 loop-less c = omega arith
 
 loop-again : tie.Need-loop-again Inv-loop μ-loop
-loop-again c = cut-turn (c .before .before .before .before .before .before .before .before .before .before .before .loop .inv) (omega arith) (omega (arith, words-long (c .before .before .before .before .before .before .before .before .before .before .before .before .before .args .bytes .now) .1)) (c .before .link-at .result) (count-is (c .before)) (omega (arith, words-long (c .before .before .before .before .before .before .before .before .before .before .before .before .before .args .bytes .now) .0, words-long (c .before .before .before .before .before .before .before .before .before .before .before .before .before .args .bytes .now) .1))
+loop-again c =
+    let a = c .before .before .before .before .before .before .before .before .before .before .before .before .before .args in
+    let loop = c .before .before .before .before .before .before .before .before .before .before .before .loop in
+    cut-turn (loop .inv) (omega arith) (omega (arith, words-long (a .bytes .now) .1)) (c .before .link-at .result) (count-is (c .before)) (omega (arith, words-long (a .bytes .now) .0, words-long (a .bytes .now) .1))
 
 returns-4 : tie.Need-returns-4 Inv-loop μ-loop
 returns-4 c = ap (λ (i : ℕ). leb i (c .before .loop .at)) (let e : length (c .before .before .before .args .bytes .now) / 4 ≡ length (bytes-words (c .before .before .before .args .bytes .now)) = omega (arith, words-long (c .before .before .before .args .bytes .now) .0, words-long (c .before .before .before .args .bytes .now) .1) in e) ∙ cut-stop (c .before .loop .inv) (omega arith)

@@ -16,16 +16,28 @@ use Rattle.door.proofs.long_refusal.Tie as tie
 
 -- more words than the limits allow
 long : (q : tie.After-number-of) → 579 < length (bytes-words (q .before .before .before .before .before .before .before .before .args .problem .now))
-long q = omega (arith, words-long (q .before .before .before .before .before .before .before .before .args .problem .now) .1, q .before .before .before .before .before .before .before .before .pre)
+long q =
+    let a = q .before .before .before .before .before .before .before .before .args in
+    let pre = q .before .before .before .before .before .before .before .before .pre in
+    omega (arith, words-long (a .problem .now) .1, pre)
 
 alone : (q : tie.After-number-of) → q .number-of .result ≡ cut-refusal door-limits 1 (take 3 (bytes-words (q .before .before .before .before .before .before .before .before .args .problem .now)))
-alone q = q .number-of .ensures _ _ (heads-judged (bytes-words (q .before .before .before .before .before .before .before .before .args .problem .now)) (q .before .before .door .ensures) (q .before .before .before .before .before .read-words .ensures) (q .before .check .ensures .0))
+alone q =
+    let a = q .before .before .before .before .before .before .before .before .args in
+    let read-words = q .before .before .before .before .before .read-words in
+    q .number-of .ensures _ _ (heads-judged (bytes-words (a .problem .now)) (q .before .before .door .ensures) (read-words .ensures) (q .before .check .ensures .0))
 
 ns-natural : (q : tie.Else2) → nonNeg (word (bytes-words (q .before .before .before .before .before .before .before .before .before .before .before .before .args .problem .now)) 1) ≡ true
-ns-natural q = ap nonNeg (sym (head-is (bytes-words (q .before .before .before .before .before .before .before .before .before .before .before .before .args .problem .now)) 1 (omega arith) (q .before .before .before .before .before .before .before .before .before .read-words .ensures))) ∙ sym (q .before .is-natural .ensures) ∙ not-false _ (q .if2 .left)
+ns-natural q =
+    let a = q .before .before .before .before .before .before .before .before .before .before .before .before .args in
+    let read-words = q .before .before .before .before .before .before .before .before .before .read-words in
+    ap nonNeg (sym (head-is (bytes-words (a .problem .now)) 1 (omega arith) (read-words .ensures))) ∙ sym (q .before .is-natural .ensures) ∙ not-false _ (q .if2 .left)
 
 found-whole : (q : tie.After-is-whole) → q .is-whole .result ≡ got (parts (bytes-words (q .before .before .before .before .before .before .before .before .before .before .before .before .before .before .before .args .problem .now)))
-found-whole q = whole-is (bytes-words (q .before .before .before .before .before .before .before .before .before .before .before .before .before .before .before .args .problem .now)) (sym (head-is (bytes-words (q .before .before .before .before .before .before .before .before .before .before .before .before .before .before .before .args .problem .now)) 2 (omega arith) (q .before .before .before .before .before .before .before .before .before .before .before .before .read-words .ensures)) ∙ q .before .link-at .ensures .word-is) (q .is-whole .ensures)
+found-whole q =
+    let a = q .before .before .before .before .before .before .before .before .before .before .before .before .before .before .before .args in
+    let read-words = q .before .before .before .before .before .before .before .before .before .before .before .before .read-words in
+    whole-is (bytes-words (a .problem .now)) (sym (head-is (bytes-words (a .problem .now)) 2 (omega arith) (read-words .ensures)) ∙ q .before .link-at .ensures .word-is) (q .is-whole .ensures)
 
 slice-aggregate-read-words : tie.Need-slice-aggregate-read-words
 slice-aggregate-read-words c = search needs
@@ -55,22 +67,42 @@ is-natural-requires : tie.Need-is-natural-requires
 is-natural-requires c κs = search needs
 
 returns-2 : tie.Need-returns-2
-returns-2 c = (by-ns (bytes-words (c .before .before .before .before .before .before .before .before .before .before .before .before .args .problem .now)) (long (c .before .before .before .before)) (alone (c .before .before .before .before)) (c .before .before .before .if1 .left) (ap nonNeg (sym (head-is (bytes-words (c .before .before .before .before .before .before .before .before .before .before .before .before .args .problem .now)) 1 (omega arith) (c .before .before .before .before .before .before .before .before .before .read-words .ensures))) ∙ sym (c .before .is-natural .ensures) ∙ not-true _ (c .if2 .taken)), omega arith)
+returns-2 c =
+    let a = c .before .before .before .before .before .before .before .before .before .before .before .before .args in
+    let read-words = c .before .before .before .before .before .before .before .before .before .read-words in
+    let d = c .before .before .before .before in
+    let if1 = c .before .before .before .if1 in
+    (by-ns (bytes-words (a .problem .now)) (long d) (alone d) (if1 .left) (ap nonNeg (sym (head-is (bytes-words (a .problem .now)) 1 (omega arith) (read-words .ensures))) ∙ sym (c .before .is-natural .ensures) ∙ not-true _ (c .if2 .taken)), omega arith)
 
 slice-aggregate-link-at : tie.Need-slice-aggregate-link-at
 slice-aggregate-link-at c = search needs
 
 link-at-requires : tie.Need-link-at-requires
-link-at-requires c κs = (search needs, rw (head-is (bytes-words (c .before .before .before .before .before .before .before .before .before .before .before .before .before .args .problem .now)) 2 (omega arith) (c .before .before .before .before .before .before .before .before .before .before .read-words .ensures)) (options-natural (bytes-words (c .before .before .before .before .before .before .before .before .before .before .before .before .before .args .problem .now)) (long (c .before .before .before .before .before)) (alone (c .before .before .before .before .before)) (c .before .before .before .before .if1 .left)))
+link-at-requires c κs =
+    let a = c .before .before .before .before .before .before .before .before .before .before .before .before .before .args in
+    let read-words = c .before .before .before .before .before .before .before .before .before .before .read-words in
+    let d = c .before .before .before .before .before in
+    let if1 = c .before .before .before .before .if1 in
+    (search needs, rw (head-is (bytes-words (a .problem .now)) 2 (omega arith) (read-words .ensures)) (options-natural (bytes-words (a .problem .now)) (long d) (alone d) (if1 .left)))
 
 is-whole-requires : tie.Need-is-whole-requires
 is-whole-requires c κs = search needs
 
 returns-3 : tie.Need-returns-3
-returns-3 c = (by-entries (bytes-words (c .before .before .before .before .before .before .before .before .before .before .before .before .before .before .before .before .args .problem .now)) (long (c .before .before .before .before .before .before .before .before)) (alone (c .before .before .before .before .before .before .before .before)) (c .before .before .before .before .before .before .before .if1 .left) (ns-natural (c .before .before .before .before)) (sym (c .if3 .taken) ∙ found-whole (c .before)), omega arith)
+returns-3 c =
+    let a = c .before .before .before .before .before .before .before .before .before .before .before .before .before .before .before .before .args in
+    let d = c .before .before .before .before .before .before .before .before in
+    let if1 = c .before .before .before .before .before .before .before .if1 in
+    let d′ = c .before .before .before .before in
+    (by-entries (bytes-words (a .problem .now)) (long d) (alone d) (if1 .left) (ns-natural d′) (sym (c .if3 .taken) ∙ found-whole (c .before)), omega arith)
 
 returns-4 : tie.Need-returns-4
-returns-4 c = (by-cut (bytes-words (c .before .before .before .before .before .before .before .before .before .before .before .before .before .before .before .before .args .problem .now)) (long (c .before .before .before .before .before .before .before .before)) (alone (c .before .before .before .before .before .before .before .before)) (c .before .before .before .before .before .before .before .if1 .left) (ns-natural (c .before .before .before .before)) (sym (c .if3 .left) ∙ found-whole (c .before)), omega arith)
+returns-4 c =
+    let a = c .before .before .before .before .before .before .before .before .before .before .before .before .before .before .before .before .args in
+    let d = c .before .before .before .before .before .before .before .before in
+    let if1 = c .before .before .before .before .before .before .before .if1 in
+    let d′ = c .before .before .before .before in
+    (by-cut (bytes-words (a .problem .now)) (long d) (alone d) (if1 .left) (ns-natural d′) (sym (c .if3 .left) ∙ found-whole (c .before)), omega arith)
 
 pub long-refusal-spec : {M : Type 1} → statement M
 long-refusal-spec =

@@ -29,7 +29,10 @@ loop-less : tie.Need-loop-less Inv-loop μ-loop
 loop-less c = omega arith
 
 loop-again : tie.Need-loop-again Inv-loop μ-loop
-loop-again c = (read-next (c .before .before .before .before .before .before .args .bytes .now) (c .before .before .before .before .loop .words) (c .before .before .before .before .loop .k) (c .before .before .before .before .loop .inv .0) (omega arith) (c .before .take-word .ensures), c .before .take-word .kept .1 .1 .0 ∙ c .before .before .before .before .loop .inv .1)
+loop-again c =
+    let a = c .before .before .before .before .before .before .args in
+    let loop = c .before .before .before .before .loop in
+    (read-next (a .bytes .now) (loop .words) (loop .k) (loop .inv .0) (omega arith) (c .before .take-word .ensures), c .before .take-word .kept .1 .1 .0 ∙ loop .inv .1)
 
 same-length : tie.Need-same-length Inv-loop μ-loop
 same-length c = c .before .loop .inv .1

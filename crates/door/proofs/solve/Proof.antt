@@ -30,7 +30,12 @@ slice-aggregate-solve-parts-3 : tie.Need-slice-aggregate-solve-parts-3
 slice-aggregate-solve-parts-3 c = sym (length-take-le _ _ (omega (arith, c .before .before .before .before .before .pre .bounds .few-items)))
 
 solve-parts-requires : tie.Need-solve-parts-requires
-solve-parts-requires c κs = (c .before .before .before .before .before .before .pre, record { table-long = sym (slice-aggregate-solve-parts (c .before .before .before)) ∙ c .before .before .before .before .table-words .ensures; path-is = take-zeros (pos 0) 64 (c .before .before .before .before .before .before .args .s .np) (omega (arith, c .before .before .before .before .before .before .pre .bounds .few-items)); profile-is = take-zeros 0 64 (c .before .before .before .before .before .before .args .s .np) (omega (arith, c .before .before .before .before .before .before .pre .bounds .few-items)) })
+solve-parts-requires c κs =
+    let pre = c .before .before .before .before .before .before .pre in
+    let a = c .before .before .before .before .before .before .args in
+    let table-words = c .before .before .before .before .table-words in
+    let d = c .before .before .before in
+    (pre, record { table-long = sym (slice-aggregate-solve-parts d) ∙ table-words .ensures; path-is = take-zeros (pos 0) 64 (a .s .np) (omega (arith, pre .bounds .few-items)); profile-is = take-zeros 0 64 (a .s .np) (omega (arith, pre .bounds .few-items)) })
 
 same-length : tie.Need-same-length
 same-length c = search needs

@@ -17,15 +17,28 @@ depth-put : (q : tie.After-put-bytes Inv-loop μ-loop) → Put (q .before .befor
 depth-put q = put-more (q .before .before .before .args .depth) 0 (put-none (q .before .before .before .args .out .now)) refl (omega arith) (q .put-bytes .ensures)
 
 -- one number more
-next-put : (q : tie.After-put-bytes2 Inv-loop μ-loop) → Put ((q .before .before .before .before .before .before .before .before .before .before .args .depth) ∷ firsts (q .before .before .before .before .before .before .before .before .before .before .args .found .now) (q .before .before .before .before .loop .k + 1)) (q .before .before .before .before .before .before .before .put-bytes .last .0) (q .put-bytes2 .last .0)
+next-put : (q : tie.After-put-bytes2 Inv-loop μ-loop)
+    → let a = q .before .before .before .before .before .before .before .before .before .before .args in
+    let put-bytes = q .before .before .before .before .before .before .before .put-bytes in
+    let loop = q .before .before .before .before .loop in
+    Put ((a .depth) ∷ firsts (a .found .now) (loop .k + 1)) (put-bytes .last .0) (q .put-bytes2 .last .0)
 next-put q =
-    subst (λ (l : List ℕ). Put ((q .before .before .before .before .before .before .before .before .before .before .args .depth) ∷ l) (q .before .before .before .before .before .before .before .put-bytes .last .0) (q .put-bytes2 .last .0)) (firsts-next (q .before .before .before .before .before .before .before .before .before .before .args .found .now) (q .before .before .before .before .loop .k) (omega arith) (q .before .link-at .ensures .word-is))
-    (put-more (q .before .link-at .result) (4 + 4 * q .before .before .before .before .loop .k) (q .before .before .before .before .loop .inv .0) (omega (arith, firsts-long (q .before .before .before .before .before .before .before .before .before .before .args .found .now) (q .before .before .before .before .loop .k) (omega arith))) (omega (arith, put-long (depth-put (q .before .before .before .before .before .before .before)))) (q .put-bytes2 .ensures))
+    let a = q .before .before .before .before .before .before .before .before .before .before .args in
+    let put-bytes = q .before .before .before .before .before .before .before .put-bytes in
+    let d = q .before .before .before .before .before .before .before in
+    let loop = q .before .before .before .before .loop in
+    subst (λ (l : List ℕ). Put ((a .depth) ∷ l) (put-bytes .last .0) (q .put-bytes2 .last .0)) (firsts-next (a .found .now) (loop .k) (omega arith) (q .before .link-at .ensures .word-is))
+    (put-more (q .before .link-at .result) (4 + 4 * loop .k) (loop .inv .0) (omega (arith, firsts-long (a .found .now) (loop .k) (omega arith))) (omega (arith, put-long (depth-put d))) (q .put-bytes2 .ensures))
 
-all-put : (a : tie.After-loop Inv-loop μ-loop) → Put (a .before .before .before .before .before .before .before .args .depth ∷ firsts (a .before .before .before .before .before .before .before .args .found .now) (a .before .before .before .before .before .before .before .args .depth)) (a .before .before .before .before .put-bytes .last .0) (a .before .loop .out)
+all-put : (a : tie.After-loop Inv-loop μ-loop)
+    → let the-a = a .before .before .before .before .before .before .before .args in
+    let put-bytes = a .before .before .before .before .put-bytes in
+    Put (the-a .depth ∷ firsts (the-a .found .now) (the-a .depth)) (put-bytes .last .0) (a .before .loop .out)
 all-put a =
-    let e : a .before .loop .k ≡ a .before .before .before .before .before .before .before .args .depth = omega (arith, a .before .loop .inv .1) in
-    subst (λ (i : ℕ). Put (a .before .before .before .before .before .before .before .args .depth ∷ firsts (a .before .before .before .before .before .before .before .args .found .now) i) (a .before .before .before .before .put-bytes .last .0) (a .before .loop .out)) e (a .before .loop .inv .0)
+    let the-a = a .before .before .before .before .before .before .before .args in
+    let put-bytes = a .before .before .before .before .put-bytes in
+    let e : a .before .loop .k ≡ the-a .depth = omega (arith, a .before .loop .inv .1) in
+    subst (λ (i : ℕ). Put (the-a .depth ∷ firsts (the-a .found .now) i) (put-bytes .last .0) (a .before .loop .out)) e (a .before .loop .inv .0)
 
 put-bytes-requires : tie.Need-put-bytes-requires Inv-loop μ-loop
 put-bytes-requires c κs = omega arith

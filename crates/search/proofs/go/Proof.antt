@@ -31,8 +31,10 @@ state-at-requires c κs = search needs
 
 run-requires-2 : tie.Need-run-requires-2
 run-requires-2 c κs =
-    let B = c .before .before .before .before .before .before .before .pre .1 .1 .2 in
-    (omega (arith, made-updates _ (c .state-at .ensures)), (c .before .before .before .before .before .before .before .pre .1 .0, (_, _, made-on _ (c .state-at .ensures) (done-on B (c .before .before .before .before .enum-told2 .given .1)))))
+    let pre = c .before .before .before .before .before .before .before .pre in
+    let enum-told2 = c .before .before .before .before .enum-told2 in
+    let B = pre .1 .1 .2 in
+    (omega (arith, made-updates _ (c .state-at .ensures)), (pre .1 .0, (_, _, made-on _ (c .state-at .ensures) (done-on B (enum-told2 .given .1)))))
 
 enum-told-3 : tie.Need-enum-told-3
 enum-told-3 c = search needs
@@ -59,19 +61,27 @@ same-length-2 : tie.Need-same-length-2
 same-length-2 c = search needs
 
 returns : tie.Need-returns
-returns c = λ P s B.
-    from-last _ _ _ s _ _ _ (c .before .before .before .before .before .before .before .before .before .enum-told3 .given .1) (c .before .before .before .before .before .before .before .before .before .before .before .before .pre .0) (c .before .before .before .before .before .before .before .before .before .before .before .before .pre .1 .0) (c .before .before .before .before .before .retreat .ensures P s (B .on)) (c .before .enum-told4 .given .1) (c .state-at2 .ensures)
+returns c =
+    let pre = c .before .before .before .before .before .before .before .before .before .before .before .before .pre in
+    let enum-told3 = c .before .before .before .before .before .before .before .before .before .enum-told3 in
+    let the-retreat = c .before .before .before .before .before .retreat in
+    λ P s B.
+    from-last _ _ _ s _ _ _ (enum-told3 .given .1) (pre .0) (pre .1 .0) (the-retreat .ensures P s (B .on)) (c .before .enum-told4 .given .1) (c .state-at2 .ensures)
 
 capped-requires : tie.Need-capped-requires
 capped-requires c κs = search needs
 
 state-at-requires-3 : tie.Need-state-at-requires-3
-state-at-requires-3 c κs = omega (arith, level-small (onward c (c .before .before .before .before .before .before .before .before .before .before .before .before .before .before .before .before .pre .1 .1 .2) .on))
+state-at-requires-3 c κs =
+    let pre = c .before .before .before .before .before .before .before .before .before .before .before .before .before .before .before .before .pre in
+    omega (arith, level-small (onward c (pre .1 .1 .2) .on))
 
 run-requires-3 : tie.Need-run-requires-3
 run-requires-3 c κs =
-    let N = onward (c .before) (c .before .before .before .before .before .before .before .before .before .before .before .before .before .before .before .before .before .pre .1 .1 .2) in
-    (omega (arith, made-updates _ (c .state-at3 .ensures), c .before .capped .ensures), (rw (c .before .before .before .before .before .before .before .before .before .before .retreat .kept .1 .0) (c .before .before .before .before .before .before .before .before .before .before .before .before .before .before .before .before .before .pre .1 .0), (_, _, made-on _ (c .state-at3 .ensures) (N .on))))
+    let pre = c .before .before .before .before .before .before .before .before .before .before .before .before .before .before .before .before .before .pre in
+    let the-retreat = c .before .before .before .before .before .before .before .before .before .before .retreat in
+    let N = onward (c .before) (pre .1 .1 .2) in
+    (omega (arith, made-updates _ (c .state-at3 .ensures), c .before .capped .ensures), (rw (the-retreat .kept .1 .0) (pre .1 .0), (_, _, made-on _ (c .state-at3 .ensures) (N .on))))
 
 same-length-3 : tie.Need-same-length-3
 same-length-3 c = search needs
@@ -95,9 +105,13 @@ same-length-8 : tie.Need-same-length-8
 same-length-8 c = search needs
 
 returns-3 : tie.Need-returns-3
-returns-3 c = λ P s B.
-    let O = done-on B (c .before .before .before .before .before .before .before .before .before .enum-told2 .given .1) in
-    from-done _ _ _ s (c .before .before .before .before .before .before .before .before .before .enum-told2 .given .1) (top-is O) (c .before .before .before .before .before .state-at .ensures) (c .before .before .before .before .run2 .ensures P s (made-on _ (c .before .before .before .before .before .state-at .ensures) O))
+returns-3 c =
+    let enum-told2 = c .before .before .before .before .before .before .before .before .before .enum-told2 in
+    let state-at = c .before .before .before .before .before .state-at in
+    let run2 = c .before .before .before .before .run2 in
+    λ P s B.
+    let O = done-on B (enum-told2 .given .1) in
+    from-done _ _ _ s (enum-told2 .given .1) (top-is O) (state-at .ensures) (run2 .ensures P s (made-on _ (state-at .ensures) O))
 
 same-length-9 : tie.Need-same-length-9
 same-length-9 c = search needs
@@ -109,9 +123,14 @@ same-length-11 : tie.Need-same-length-11
 same-length-11 c = search needs
 
 returns-4 : tie.Need-returns-4
-returns-4 c = λ P s B.
-    let N = onward (c .before .before .before .before .before .before) B in
-    from-solution _ _ _ s (c .before .before .before .before .before .before .before .before .before .before .before .before .before .before .before .before .before .before .before .enum-told3 .given .1) N (made-updates _ (c .before .before .before .before .before .state-at3 .ensures)) (c .before .before .before .before .run3 .ensures P _ (made-on _ (c .before .before .before .before .before .state-at3 .ensures) (N .on)))
+returns-4 c =
+    let enum-told3 = c .before .before .before .before .before .before .before .before .before .before .before .before .before .before .before .before .before .before .before .enum-told3 in
+    let d = c .before .before .before .before .before .before in
+    let state-at3 = c .before .before .before .before .before .state-at3 in
+    let run3 = c .before .before .before .before .run3 in
+    λ P s B.
+    let N = onward d B in
+    from-solution _ _ _ s (enum-told3 .given .1) N (made-updates _ (state-at3 .ensures)) (run3 .ensures P _ (made-on _ (state-at3 .ensures) (N .on)))
 
 pub go-spec : {M : Type 1} → statement M
 go-spec =

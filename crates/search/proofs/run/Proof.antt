@@ -69,11 +69,14 @@ same-length-3 : tie.Need-same-length-3 Inv-loop μ-loop
 same-length-3 c = profile-length (c .before .before .before .before)
 
 returns : tie.Need-returns Inv-loop μ-loop
-returns c = λ P s O.
-    let R = c .before .before .before .before .loop .inv P s O in
-    ends-ran (walk P (pick P) (c .before .before .before .before .before .before .before .args .allowance) s) (c .before .before .before .before .before .before .before .args .st)
+returns c =
+    let a = c .before .before .before .before .before .before .before .args in
+    let loop = c .before .before .before .before .loop in
+    λ P s O.
+    let R = loop .inv P s O in
+    ends-ran (walk P (pick P) (a .allowance) s) (a .st)
     (rw (solved R (no-item (pick P (chosen (R .rest .s))) (item-is (c .before .before) O) (c .before .if1 .taken)))
-    (stopped solution (c .before .before .before .before .loop .u) (c .before .before .before .before .loop .visits) (R .small) (R .counts) (R .rest .on) (c .state-at .ensures)))
+    (stopped solution (loop .u) (loop .visits) (R .small) (R .counts) (R .rest .on) (c .state-at .ensures)))
 
 state-at-requires-2 : tie.Need-state-at-requires-2 Inv-loop μ-loop
 state-at-requires-2 c κs = omega (arith, level-small (running (c .before .before .before .before) .rest .on))
@@ -88,19 +91,28 @@ same-length-6 : tie.Need-same-length-6 Inv-loop μ-loop
 same-length-6 c = profile-length (c .before .before .before .before .before)
 
 returns-2 : tie.Need-returns-2 Inv-loop μ-loop
-returns-2 c = λ P s O.
-    let R = c .before .before .before .before .before .loop .inv P s O in
-    ends-ran (walk P (pick P) (c .before .before .before .before .before .before .before .before .args .allowance) s) (c .before .before .before .before .before .before .before .before .args .st)
-    (rw (waits R (taking (c .before .before) O .1 .picked .picks) (c .before .if2 .taken)) (stopped paused (c .before .before .before .before .before .loop .u) (c .before .before .before .before .before .loop .visits) (R .small) (R .counts) (R .rest .on) (c .state-at2 .ensures)))
+returns-2 c =
+    let a = c .before .before .before .before .before .before .before .before .args in
+    let loop = c .before .before .before .before .before .loop in
+    λ P s O.
+    let R = loop .inv P s O in
+    ends-ran (walk P (pick P) (a .allowance) s) (a .st)
+    (rw (waits R (taking (c .before .before) O .1 .picked .picks) (c .before .if2 .taken)) (stopped paused (loop .u) (loop .visits) (R .small) (R .counts) (R .rest .on) (c .state-at2 .ensures)))
 
 add-visits : tie.Need-add-visits Inv-loop μ-loop
 add-visits c = omega (arith, running (c .before .before .before .before) .within, c .if2 .left, c .before .before .before .before .before .before .before .fits .allowance)
 
 bump-requires : tie.Need-bump-requires Inv-loop μ-loop
-bump-requires c κs = omega (arith, profile-room (c .before .before .before .before .before .loop .inv _ _ (known (c .before .before .before .before .before))) (taking (c .before .before) (known (c .before .before .before .before .before)) .1))
+bump-requires c κs =
+    let loop = c .before .before .before .before .before .loop in
+    let d = c .before .before .before .before .before in
+    omega (arith, profile-room (loop .inv _ _ (known d)) (taking (c .before .before) (known d) .1))
 
 enter-requires : tie.Need-enter-requires Inv-loop μ-loop
-enter-requires c κs = (_, _, _, taking (c .before .before .before .before .before .before .before) (known (c .before .before .before .before .before .before .before .before .before .before)) .1)
+enter-requires c κs =
+    let d = c .before .before .before .before .before .before .before .before .before .before in
+    let d′ = c .before .before .before .before .before .before .before in
+    (_, _, _, taking d′ (known d) .1)
 
 enum-known-way : tie.Need-enum-known-way Inv-loop μ-loop
 enum-known-way c = search needs
@@ -112,30 +124,55 @@ state-at-requires-3 : tie.Need-state-at-requires-3 Inv-loop μ-loop
 state-at-requires-3 c κs = omega arith
 
 same-length-7 : tie.Need-same-length-7 Inv-loop μ-loop
-same-length-7 c = c .before .before .before .before .before .enter .kept .0 ∙ lengths (c .before .before .before .before .before .before .before .before .before .before .before .before .before .before .before .before) .0
+same-length-7 c =
+    let d = c .before .before .before .before .before .before .before .before .before .before .before .before .before .before .before .before in
+    let enter = c .before .before .before .before .before .enter in
+    enter .kept .0 ∙ lengths d .0
 
 same-length-8 : tie.Need-same-length-8 Inv-loop μ-loop
-same-length-8 c = c .before .before .before .before .before .enter .kept .1 .0 ∙ lengths (c .before .before .before .before .before .before .before .before .before .before .before .before .before .before .before .before) .1
+same-length-8 c =
+    let d = c .before .before .before .before .before .before .before .before .before .before .before .before .before .before .before .before in
+    let enter = c .before .before .before .before .before .enter in
+    enter .kept .1 .0 ∙ lengths d .1
 
 same-length-9 : tie.Need-same-length-9 Inv-loop μ-loop
-same-length-9 c = c .before .before .before .before .before .before .before .before .before .before .bump .kept .0 ∙ profile-length (c .before .before .before .before .before .before .before .before .before .before .before .before .before .before .before .before)
+same-length-9 c =
+    let d = c .before .before .before .before .before .before .before .before .before .before .before .before .before .before .before .before in
+    let bump = c .before .before .before .before .before .before .before .before .before .before .bump in
+    bump .kept .0 ∙ profile-length d
 
 returns-3 : tie.Need-returns-3 Inv-loop μ-loop
-returns-3 c = λ P s O.
-    let K = taking (c .before .before .before .before .before .before .before .before .before .before .before .before .before) O .1 in
-    ends-ran (walk P (pick P) (c .before .before .before .before .before .before .before .before .before .before .before .before .before .before .before .before .before .before .before .args .allowance) s) (c .before .before .before .before .before .before .before .before .before .before .before .before .before .before .before .before .before .before .before .args .st)
-    (visited-out (c .before .before .before .before .before .before .before .before .before .before .before .before .before .before .before .before .loop .inv P s O) K (c .before .before .before .before .before .before .before .before .before .before .before .before .if2 .left) _ _ _ (c .before .before .before .before .before .enter .ensures P _ _ K) (c .before .before .before .before .before .before .before .before .before .before .bump .ensures) (c .before .enum-told .given .1) (c .state-at3 .ensures))
+returns-3 c =
+    let a = c .before .before .before .before .before .before .before .before .before .before .before .before .before .before .before .before .before .before .before .args in
+    let loop = c .before .before .before .before .before .before .before .before .before .before .before .before .before .before .before .before .loop in
+    let d = c .before .before .before .before .before .before .before .before .before .before .before .before .before in
+    let if2 = c .before .before .before .before .before .before .before .before .before .before .before .before .if2 in
+    let bump = c .before .before .before .before .before .before .before .before .before .before .bump in
+    let enter = c .before .before .before .before .before .enter in
+    λ P s O.
+    let K = taking d O .1 in
+    ends-ran (walk P (pick P) (a .allowance) s) (a .st)
+    (visited-out (loop .inv P s O) K (if2 .left) _ _ _ (enter .ensures P _ _ K) (bump .ensures) (c .before .enum-told .given .1) (c .state-at3 .ensures))
 
 capped-requires : tie.Need-capped-requires Inv-loop μ-loop
 capped-requires c κs = tt
 
 loop-less : tie.Need-loop-less Inv-loop μ-loop
-loop-less c = omega (arith, running (c .before .before .before .before .before .before .before .before .before .before .before .before .before .before .before .before .before) .within, c .before .before .before .before .before .before .before .before .before .before .before .before .before .if2 .left)
+loop-less c =
+    let d = c .before .before .before .before .before .before .before .before .before .before .before .before .before .before .before .before .before in
+    let if2 = c .before .before .before .before .before .before .before .before .before .before .before .before .before .if2 in
+    omega (arith, running d .within, if2 .left)
 
 loop-again : tie.Need-loop-again Inv-loop μ-loop
-loop-again c = λ P s O.
-    let K = taking (c .before .before .before .before .before .before .before .before .before .before .before .before .before .before) O .1 in
-    visited-on (c .before .before .before .before .before .before .before .before .before .before .before .before .before .before .before .before .before .loop .inv P s O) K (c .before .before .before .before .before .before .before .before .before .before .before .before .before .if2 .left) _ _ _ (c .before .before .before .before .before .before .enter .ensures P _ _ K) (c .before .before .before .before .before .before .before .before .before .before .before .bump .ensures) (c .before .before .way .given .1) (c .capped .ensures)
+loop-again c =
+    let loop = c .before .before .before .before .before .before .before .before .before .before .before .before .before .before .before .before .before .loop in
+    let d = c .before .before .before .before .before .before .before .before .before .before .before .before .before .before in
+    let if2 = c .before .before .before .before .before .before .before .before .before .before .before .before .before .if2 in
+    let bump = c .before .before .before .before .before .before .before .before .before .before .before .bump in
+    let enter = c .before .before .before .before .before .before .enter in
+    λ P s O.
+    let K = taking d O .1 in
+    visited-on (loop .inv P s O) K (if2 .left) _ _ _ (enter .ensures P _ _ K) (bump .ensures) (c .before .before .way .given .1) (c .capped .ensures)
 
 pub run-spec : {M : Type 1} → statement M
 run-spec =

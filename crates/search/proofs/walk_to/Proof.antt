@@ -22,7 +22,10 @@ loop-holds : tie.Need-loop-holds Inv-loop μ-loop
 loop-holds c = ((refl, refl, refl), λ P O. walk-start _ _ O (c .before .before .pre .0) (c .state-at .ensures))
 
 go-requires : tie.Need-go-requires Inv-loop μ-loop
-go-requires c κs = let W = c .before .before .before .loop .inv .1 (c .before .before .before .before .before .before .pre .1 .0) (c .before .before .before .before .before .before .pre .1 .1) in (W .small, (W .counts, (_, _, W .begun)))
+go-requires c κs =
+    let pre = c .before .before .before .before .before .before .pre in
+    let loop = c .before .before .before .loop in
+    let W = loop .inv .1 (pre .1 .0) (pre .1 .1) in (W .small, (W .counts, (_, _, W .begun)))
 
 same-length : tie.Need-same-length Inv-loop μ-loop
 same-length c = c .before .before .before .before .before .go .kept .0 ∙ c .before .before .before .before .before .before .before .before .before .loop .inv .0 .0
@@ -40,19 +43,35 @@ enum-known-answer : tie.Need-enum-known-answer Inv-loop μ-loop
 enum-known-answer c = search needs
 
 same-length-4 : tie.Need-same-length-4 Inv-loop μ-loop
-same-length-4 c = c .before .before .before .before .before .before .go .kept .0 ∙ c .before .before .before .before .before .before .before .before .before .before .loop .inv .0 .0
+same-length-4 c =
+    let loop = c .before .before .before .before .before .before .before .before .before .before .loop in
+    let go = c .before .before .before .before .before .before .go in
+    go .kept .0 ∙ loop .inv .0 .0
 
 same-length-5 : tie.Need-same-length-5 Inv-loop μ-loop
-same-length-5 c = c .before .before .before .before .before .before .go .kept .1 .0 ∙ c .before .before .before .before .before .before .before .before .before .before .loop .inv .0 .1
+same-length-5 c =
+    let loop = c .before .before .before .before .before .before .before .before .before .before .loop in
+    let go = c .before .before .before .before .before .before .go in
+    go .kept .1 .0 ∙ loop .inv .0 .1
 
 same-length-6 : tie.Need-same-length-6 Inv-loop μ-loop
-same-length-6 c = c .before .before .before .before .before .before .go .kept .1 .1 .0 ∙ c .before .before .before .before .before .before .before .before .before .before .loop .inv .0 .2
+same-length-6 c =
+    let loop = c .before .before .before .before .before .before .before .before .before .before .loop in
+    let go = c .before .before .before .before .before .before .go in
+    go .kept .1 .1 .0 ∙ loop .inv .0 .2
 
 returns-2 : tie.Need-returns-2 Inv-loop μ-loop
-returns-2 c = λ P O. let W = c .before .before .before .before .before .before .before .before .before .before .loop .inv .1 P O in walk-stops W (c .before .before .before .before .before .before .go .ensures P (W .s) (W .begun)) (c .match .keys2)
+returns-2 c =
+    let loop = c .before .before .before .before .before .before .before .before .before .before .loop in
+    let go = c .before .before .before .before .before .before .go in
+    λ P O. let W = loop .inv .1 P O in walk-stops W (go .ensures P (W .s) (W .begun)) (c .match .keys2)
 
 sub-left : tie.Need-sub-left Inv-loop μ-loop
-sub-left c = let W = c .before .before .before .before .before .before .before .before .before .before .before .before .loop .inv .1 (c .before .before .before .before .before .before .before .before .before .before .before .before .before .before .before .pre .1 .0) (c .before .before .before .before .before .before .before .before .before .before .before .before .before .before .before .pre .1 .1) in visits-few W (c .before .before .before .before .before .before .before .before .go .ensures (c .before .before .before .before .before .before .before .before .before .before .before .before .before .before .before .pre .1 .0) (W .s) (W .begun)) (c .before .answer .given .1)
+sub-left c =
+    let pre = c .before .before .before .before .before .before .before .before .before .before .before .before .before .before .before .pre in
+    let loop = c .before .before .before .before .before .before .before .before .before .before .before .before .loop in
+    let go = c .before .before .before .before .before .before .before .before .go in
+    let W = loop .inv .1 (pre .1 .0) (pre .1 .1) in visits-few W (go .ensures (pre .1 .0) (W .s) (W .begun)) (c .before .answer .given .1)
 
 sub-ahead : tie.Need-sub-ahead Inv-loop μ-loop
 sub-ahead c = omega (arith, c .before .before .before .if1 .left)
@@ -61,7 +80,11 @@ loop-less : tie.Need-loop-less Inv-loop μ-loop
 loop-less c = omega (arith, c .before .before .before .if1 .left)
 
 loop-again : tie.Need-loop-again Inv-loop μ-loop
-loop-again c = ((c .before .before .before .before .before .before .before .before .go .kept .0 ∙ c .before .before .before .before .before .before .before .before .before .before .before .before .loop .inv .0 .0, c .before .before .before .before .before .before .before .before .go .kept .1 .0 ∙ c .before .before .before .before .before .before .before .before .before .before .before .before .loop .inv .0 .1, c .before .before .before .before .before .before .before .before .go .kept .1 .1 .0 ∙ c .before .before .before .before .before .before .before .before .before .before .before .before .loop .inv .0 .2), λ P O. let W = c .before .before .before .before .before .before .before .before .before .before .before .before .loop .inv .1 P O in walk-turns W (c .before .before .before .before .before .before .before .before .go .ensures P (W .s) (W .begun)) (c .before .answer .given .1) (c .before .before .before .if1 .left) (c .before .before .before .before .before .before .before .before .go .kept .1 .0))
+loop-again c =
+    let loop = c .before .before .before .before .before .before .before .before .before .before .before .before .loop in
+    let go = c .before .before .before .before .before .before .before .before .go in
+    let if1 = c .before .before .before .if1 in
+    ((go .kept .0 ∙ loop .inv .0 .0, go .kept .1 .0 ∙ loop .inv .0 .1, go .kept .1 .1 .0 ∙ loop .inv .0 .2), λ P O. let W = loop .inv .1 P O in walk-turns W (go .ensures P (W .s) (W .begun)) (c .before .answer .given .1) (if1 .left) (go .kept .1 .0))
 
 pub walk-to-spec : {M : Type 1} → statement M
 walk-to-spec =

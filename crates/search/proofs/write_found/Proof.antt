@@ -41,18 +41,28 @@ option-of-requires : tie.Need-option-of-requires Inv-loop μ-loop
 option-of-requires c κs = (_, _, _, at-line (c .before) (c .before .before .before .pre .0 .2) .is-node (c .link-at .ensures))
 
 put-link-requires : tie.Need-put-link-requires Inv-loop μ-loop
-put-link-requires c κs = (omega (arith, c .before .before .before .loop-test .taken, c .before .before .before .before .loop .inv .1, c .before .before .before .before .loop .inv .2, c .before .before .before .before .before .pre .1), c .before .option-of .ensures .1)
+put-link-requires c κs =
+    let pre = c .before .before .before .before .before .pre in
+    let loop = c .before .before .before .before .loop in
+    let loop-test = c .before .before .before .loop-test in
+    (omega (arith, loop-test .taken, loop .inv .1, loop .inv .2, pre .1), c .before .option-of .ensures .1)
 
 loop-less : tie.Need-loop-less Inv-loop μ-loop
 loop-less c = omega (arith, c .before .before .before .before .before .loop-test .taken)
 
 loop-again : tie.Need-loop-again Inv-loop μ-loop
-loop-again c = (
+loop-again c =
+    let pre = c .before .before .before .before .before .before .before .pre in
+    let loop = c .before .before .before .before .before .before .loop in
+    let d = c .before .before .before .before .before in
+    let loop-test = c .before .before .before .before .before .loop-test in
+    let d′ = c .before .before .before in
+    (
   λ P s O.
-      at-line (c .before .before .before .before .before) O .next (c .before .put-link .ensures ∙ ap (λ (m : ℕ). set (c .before .before .before .before .before .before .loop .found) (c .before .before .before .before .before .before .loop .l - 1) (pos m)) (number-is (c .before .before .before) O))
-      (omega (arith, c .before .before .before .before .before .loop-test .taken, c .before .before .before .before .before .before .loop .inv .1, c .before .before .before .before .before .before .loop .inv .2, c .before .before .before .before .before .before .before .pre .1)),
-  c .before .put-link .kept .0 ∙ c .before .before .before .before .before .before .loop .inv .1,
-  omega (arith, c .before .before .before .before .before .before .loop .inv .2),
+      at-line d O .next (c .before .put-link .ensures ∙ ap (λ (m : ℕ). set (loop .found) (loop .l - 1) (pos m)) (number-is d′ O))
+      (omega (arith, loop-test .taken, loop .inv .1, loop .inv .2, pre .1)),
+  c .before .put-link .kept .0 ∙ loop .inv .1,
+  omega (arith, loop .inv .2),
 )
 
 same-length : tie.Need-same-length Inv-loop μ-loop

@@ -16,7 +16,10 @@ same-length-3 : tie.Need-same-length-3
 same-length-3 c = search needs
 
 returns : tie.Need-returns
-returns c = walk-refused _ _ (c .before .before .before .before .before .timed-set-up .ensures) (c .before .before .before .before .before .before .before .before .before .before .args .number) (c .if1 .taken)
+returns c =
+    let a = c .before .before .before .before .before .before .before .before .before .before .args in
+    let timed-set-up = c .before .before .before .before .before .timed-set-up in
+    walk-refused _ _ (timed-set-up .ensures) (a .number) (c .if1 .taken)
 
 library-requires : tie.Need-library-requires
 library-requires c κs = search needs
@@ -31,7 +34,13 @@ enum-known-s : tie.Need-enum-known-s
 enum-known-s c = search needs
 
 walk-fronts-requires : tie.Need-walk-fronts-requires
-walk-fronts-requires c κs = (_, at-top _ _ (c .before .before .before .before .before .before .before .before .before .before .before .before .before .timed-set-up .ensures) (c .before .before .before .before .before .before .before .before .if1 .left) (c .before .before .before .before .before .before .before .library .ensures) (c .before .before .before .before .before .before .check .ensures .0) (c .before .before .before .before .s .given .1))
+walk-fronts-requires c κs =
+    let timed-set-up = c .before .before .before .before .before .before .before .before .before .before .before .before .before .timed-set-up in
+    let if1 = c .before .before .before .before .before .before .before .before .if1 in
+    let library = c .before .before .before .before .before .before .before .library in
+    let check = c .before .before .before .before .before .before .check in
+    let s = c .before .before .before .before .s in
+    (_, at-top _ _ (timed-set-up .ensures) (if1 .left) (library .ensures) (check .ensures .0) (s .given .1))
 
 number-of-requires : tie.Need-number-of-requires
 number-of-requires c κs = search needs
@@ -46,7 +55,12 @@ same-length-6 : tie.Need-same-length-6
 same-length-6 c = search needs
 
 returns-2 : tie.Need-returns-2
-returns-2 c = absurd (not-refused _ _ (c .before .before .before .before .before .before .before .before .before .before .timed-set-up .ensures) (c .before .before .before .before .before .if1 .left) (c .before .before .before .before .library .ensures) (c .before .before .before .check .ensures .0) (c .before .k .given .1))
+returns-2 c =
+    let timed-set-up = c .before .before .before .before .before .before .before .before .before .before .timed-set-up in
+    let if1 = c .before .before .before .before .before .if1 in
+    let library = c .before .before .before .before .library in
+    let check = c .before .before .before .check in
+    absurd (not-refused _ _ (timed-set-up .ensures) (if1 .left) (library .ensures) (check .ensures .0) (c .before .k .given .1))
 
 same-length-7 : tie.Need-same-length-7
 same-length-7 c = search needs
@@ -58,9 +72,17 @@ same-length-9 : tie.Need-same-length-9
 same-length-9 c = search needs
 
 returns-3 : tie.Need-returns-3
-returns-3 c = let e = c .before .before .before .before .before .before .before .before .before .before .before .before .before .before .before .before .before .before .before .timed-set-up .ensures in
-    let T = at-top _ _ e (c .before .before .before .before .before .before .before .before .before .before .before .before .before .before .if1 .left) (c .before .before .before .before .before .before .before .before .before .before .before .before .before .library .ensures) (c .before .before .before .before .before .before .before .before .before .before .before .before .check .ensures .0) (c .before .before .before .before .before .before .before .before .before .before .s .given .1) in
-    walk-done _ _ e (c .before .before .before .before .before .before .before .before .before .before .before .before .before .before .if1 .left) (c .before .before .before .before .before .before .before .before .before .before .before .before .before .before .before .before .before .before .before .before .before .before .before .before .args .number) (rw (c .number-of .ensures) (c .before .before .before .before .before .walk-fronts .ensures _ T))
+returns-3 c =
+    let a = c .before .before .before .before .before .before .before .before .before .before .before .before .before .before .before .before .before .before .before .before .before .before .before .before .args in
+    let timed-set-up = c .before .before .before .before .before .before .before .before .before .before .before .before .before .before .before .before .before .before .before .timed-set-up in
+    let if1 = c .before .before .before .before .before .before .before .before .before .before .before .before .before .before .if1 in
+    let library = c .before .before .before .before .before .before .before .before .before .before .before .before .before .library in
+    let check = c .before .before .before .before .before .before .before .before .before .before .before .before .check in
+    let s = c .before .before .before .before .before .before .before .before .before .before .s in
+    let walk-fronts = c .before .before .before .before .before .walk-fronts in
+    let e = timed-set-up .ensures in
+    let T = at-top _ _ e (if1 .left) (library .ensures) (check .ensures .0) (s .given .1) in
+    walk-done _ _ e (if1 .left) (a .number) (rw (c .number-of .ensures) (walk-fronts .ensures _ T))
 
 pub timed-walk-spec : {M : Type 1} → statement M
 timed-walk-spec =

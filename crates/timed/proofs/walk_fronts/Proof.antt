@@ -34,7 +34,10 @@ slice-aggregate-walk-to-3 : tie.Need-slice-aggregate-walk-to-3
 slice-aggregate-walk-to-3 c = sym (length-take-le _ _ (c .before .before .before .before .before .before .pre .1 .profile-room))
 
 walk-to-requires : tie.Need-walk-to-requires
-walk-to-requires c κs = (fronts-profile (c .before .before .before .before .before .before .pre .1), (meant (cut (c .before .before .before .before .before .before .pre .0)), rw (c .before .before .before .before .table-words .ensures) (fronts-on (c .before .before .before .before .before .before .pre .1))))
+walk-to-requires c κs =
+    let pre = c .before .before .before .before .before .before .pre in
+    let table-words = c .before .before .before .before .table-words in
+    (fronts-profile (pre .1), (meant (cut (pre .0)), rw (table-words .ensures) (fronts-on (pre .1))))
 
 same-length : tie.Need-same-length
 same-length c = search needs
@@ -46,12 +49,15 @@ same-length-3 : tie.Need-same-length-3
 same-length-3 c = search needs
 
 returns : tie.Need-returns
-returns c = λ ws T.
+returns c =
     let a = c .before .before .before .before .before .before .before .before .before .before .before .args in
-    let w = c .before .before .before .before .before .before .before .before .before .table-words .ensures in
-    let k = c .before .before .before .before .walk-to .kept in
-    let h : c .before .before .before .before .before .before .before .before .before .table-words .result ≤ length (a .table .now) = omega (arith, T .table-room) in
-    rw w (fronts-walked T (a .number) (c .before .before .before .before .walk-to .ensures (meant (cut ws)) (rw w (fronts-on T))) (k .0 ∙ length-take-le _ _ h ∙ w) (k .1 .0 ∙ length-take-le _ _ (T .path-room)) (k .1 .1 .0 ∙ length-take-le _ _ (T .profile-room)))
+    let table-words = c .before .before .before .before .before .before .before .before .before .table-words in
+    let walk-to = c .before .before .before .before .walk-to in
+    λ ws T.
+    let w = table-words .ensures in
+    let k = walk-to .kept in
+    let h : table-words .result ≤ length (a .table .now) = omega (arith, T .table-room) in
+    rw w (fronts-walked T (a .number) (walk-to .ensures (meant (cut ws)) (rw w (fronts-on T))) (k .0 ∙ length-take-le _ _ h ∙ w) (k .1 .0 ∙ length-take-le _ _ (T .path-room)) (k .1 .1 .0 ∙ length-take-le _ _ (T .profile-room)))
 
 pub walk-fronts-spec : {M : Type 1} → statement M
 walk-fronts-spec =

@@ -48,7 +48,11 @@ returns-2 c = λ P s F.
     record { meant = none-open P s (word (c .before .before .before .before .before .args .path .now) (c .before .before .before .before .before .args .l)) (no-item (pick P (chosen s)) (item-is (c .before) F) (c .if2 .taken)); at = F .at }
 
 link-at-requires : tie.Need-link-at-requires
-link-at-requires c κs = (c .before .before .before .before .before .pre .2 .inside, natural (sym (c .before .before .before .before .is-natural .ensures) ∙ not-false (c .before .before .before .before .is-natural .result) (c .before .before .before .if1 .left)))
+link-at-requires c κs =
+    let pre = c .before .before .before .before .before .pre in
+    let is-natural = c .before .before .before .before .is-natural in
+    let if1 = c .before .before .before .if1 in
+    (pre .2 .inside, natural (sym (is-natural .ensures) ∙ not-false (is-natural .result) (if1 .left)))
 
 is-listed-requires : tie.Need-is-listed-requires
 is-listed-requires c κs = (_, _, _, picked (c .before .before) (c .before .before .before .before .before .before .before .pre .2) .1)
@@ -62,15 +66,23 @@ returns-3 c = λ P s F.
     record { meant = not-listed P s (c .before .before .before .link-at .ensures) (K .1) (sym (c .before .is-listed .ensures P s (K .0) (K .1)) ∙ not-true (c .before .is-listed .result) (c .if3 .taken)); at = F .at }
 
 try-item-requires : tie.Need-try-item-requires
-try-item-requires c κs = let F = c .before .before .before .before .before .before .before .before .before .before .pre .2 in (_, _, _, listed _ _ (c .before .before .before .before .link-at .ensures) (picked (c .before .before .before .before .before) F .1) (is-in (c .before) F) .2)
+try-item-requires c κs =
+    let pre = c .before .before .before .before .before .before .before .before .before .before .pre in
+    let d = c .before .before .before .before .before in
+    let link-at = c .before .before .before .before .link-at in
+    let F = pre .2 in (_, _, _, listed _ _ (link-at .ensures) (picked d F .1) (is-in (c .before) F) .2)
 
 same-length-3 : tie.Need-same-length-3
 same-length-3 c = search needs
 
 returns-4 : tie.Need-returns-4
-returns-4 c = λ P s F.
-    let K = picked (c .before .before .before .before .before .before .before) F .1 in
-    stepped P s (c .before .before .before .before .before .before .link-at .ensures) K (is-in (c .before .before .before) F) (c .before .try-item .ensures P _ _ (listed P s (c .before .before .before .before .before .before .link-at .ensures) K (is-in (c .before .before .before) F) .2) .at)
+returns-4 c =
+    let d = c .before .before .before .before .before .before .before in
+    let link-at = c .before .before .before .before .before .before .link-at in
+    let d′ = c .before .before .before in
+    λ P s F.
+    let K = picked d F .1 in
+    stepped P s (link-at .ensures) K (is-in d′ F) (c .before .try-item .ensures P _ _ (listed P s (link-at .ensures) K (is-in d′ F) .2) .at)
 
 pub follow-spec : {M : Type 1} → statement M
 follow-spec =

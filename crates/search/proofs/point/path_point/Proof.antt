@@ -28,13 +28,19 @@ returns-2 : tie.Need-returns-2
 returns-2 c = λ P A h. bad-zeros P (c .before .before .before .before .before .args .st) (c .before .before .before .before .before .args .path .now) h A (sym (c .before .zeros-from .ensures) ∙ not-true (c .before .zeros-from .result) (c .if2 .taken))
 
 replay-requires : tie.Need-replay-requires
-replay-requires c κs = (c .before .before .before .before .before .before .pre, depth-le (c .before .before .before .before .before .before .args .st .phase) (length (c .before .before .before .before .before .before .args .path .now)) (c .before .before .before .before .before .before .args .st .depth) (depth-is (c .before .before .before)))
+replay-requires c κs =
+    let pre = c .before .before .before .before .before .before .pre in
+    let a = c .before .before .before .before .before .before .args in
+    let d = c .before .before .before in
+    (pre, depth-le (a .st .phase) (length (a .path .now)) (a .st .depth) (depth-is d))
 
 same-length : tie.Need-same-length
 same-length c = search needs
 
 returns-3 : tie.Need-returns-3
-returns-3 c = λ P A h. let R = c .before .before .replay .ensures P A in bad-path P (c .before .before .before .before .before .before .before .before .before .args .st) (c .before .before .before .before .before .before .before .before .before .args .path .now) h R (omega (arith, R .within, c .if3 .taken))
+returns-3 c =
+    let a = c .before .before .before .before .before .before .before .before .before .args in
+    λ P A h. let R = c .before .before .replay .ensures P A in bad-path P (a .st) (a .path .now) h R (omega (arith, R .within, c .if3 .taken))
 
 choose-requires : tie.Need-choose-requires
 choose-requires c κs = (_, _, c .before .before .before .replay .ensures _ (c .before .before .before .before .before .before .before .before .before .before .pre .1) .on .at)
@@ -46,9 +52,16 @@ same-length-2 : tie.Need-same-length-2
 same-length-2 c = search needs
 
 returns-4 : tie.Need-returns-4
-returns-4 c = λ P A h.
-    let R = c .before .before .before .before .before .replay .ensures P A in
-    good-path P (c .before .before .before .before .before .before .before .before .before .before .before .before .args .st) (c .before .before .before .before .before .before .before .before .before .before .before .before .args .path .now) h R (depth-is (c .before .before .before .before .before .before .before .before .before)) (sym (c .before .before .before .before .before .before .before .before .zeros-from .ensures) ∙ not-false (c .before .before .before .before .before .before .before .before .zeros-from .result) (c .before .before .before .before .before .before .before .if2 .left)) (c .before .before .before .if3 .left)
+returns-4 c =
+    let a = c .before .before .before .before .before .before .before .before .before .before .before .before .args in
+    let d = c .before .before .before .before .before .before .before .before .before in
+    let zeros-from = c .before .before .before .before .before .before .before .before .zeros-from in
+    let if2 = c .before .before .before .before .before .before .before .if2 in
+    let replay = c .before .before .before .before .before .replay in
+    let if3 = c .before .before .before .if3 in
+    λ P A h.
+    let R = replay .ensures P A in
+    good-path P (a .st) (a .path .now) h R (depth-is d) (sym (zeros-from .ensures) ∙ not-false (zeros-from .result) (if2 .left)) (if3 .left)
     (c .before .choose .ensures P _ (R .on .at)) (c .phase-fits .ensures)
 
 pub path-point-spec : {M : Type 1} → statement M

@@ -35,8 +35,14 @@ same-length : tie.Need-same-length Inv-loop μ-loop
 same-length c = c .before .before .follow .kept .0 ∙ one-size (c .before .before .before .before .before)
 
 returns : tie.Need-returns Inv-loop μ-loop
-returns c = λ P A.
-    replay-stop (c .before .before .before .before .before .loop .inv P A) (c .before .before .before .before .before .before .pre .1) (c .before .before .before .before .loop-test .taken) (c .before .before .follow .result) _ (c .before .before .follow .ensures P _ (following (c .before .before .before .before) A)) (not-true (c .before .before .follow .result) (c .if1 .taken))
+returns c =
+    let pre = c .before .before .before .before .before .before .pre in
+    let loop = c .before .before .before .before .before .loop in
+    let loop-test = c .before .before .before .before .loop-test in
+    let d = c .before .before .before .before in
+    let follow = c .before .before .follow in
+    λ P A.
+    replay-stop (loop .inv P A) (pre .1) (loop-test .taken) (follow .result) _ (follow .ensures P _ (following d A)) (not-true (follow .result) (c .if1 .taken))
 
 add-l : tie.Need-add-l Inv-loop μ-loop
 add-l c = omega (arith, c .before .before .before .before .loop-test .taken)
@@ -45,8 +51,14 @@ loop-less : tie.Need-loop-less Inv-loop μ-loop
 loop-less c = omega (arith, c .before .before .before .before .loop-test .taken)
 
 loop-again : tie.Need-loop-again Inv-loop μ-loop
-loop-again c = λ P A.
-    replay-on (c .before .before .before .before .before .loop .inv P A) (c .before .before .before .before .before .before .pre .1) (c .before .before .before .before .loop-test .taken) (c .before .before .follow .result) _ (c .before .before .follow .ensures P _ (following (c .before .before .before .before) A)) (not-false (c .before .before .follow .result) (c .if1 .left))
+loop-again c =
+    let pre = c .before .before .before .before .before .before .pre in
+    let loop = c .before .before .before .before .before .loop in
+    let loop-test = c .before .before .before .before .loop-test in
+    let d = c .before .before .before .before in
+    let follow = c .before .before .follow in
+    λ P A.
+    replay-on (loop .inv P A) (pre .1) (loop-test .taken) (follow .result) _ (follow .ensures P _ (following d A)) (not-false (follow .result) (c .if1 .left))
 
 same-length-2 : tie.Need-same-length-2 Inv-loop μ-loop
 same-length-2 c = one-size (c .before)

@@ -21,7 +21,11 @@ same-at-requires : tie.Need-same-at-requires Inv-loop μ-loop
 same-at-requires c κs = (omega arith, omega arith)
 
 returns : tie.Need-returns Inv-loop μ-loop
-returns c = same-stop (c .before .before .before .before .args .s .now) (c .before .before .before .before .args .t .now) (c .before .before .before .before .pre) (c .before .before .before .loop .k) (c .before .before .loop-test .taken) (sym (c .before .same-at .ensures) ∙ not-true _ (c .if1 .taken)) (c .before .before .before .loop .inv .1)
+returns c =
+    let a = c .before .before .before .before .args in
+    let pre = c .before .before .before .before .pre in
+    let loop = c .before .before .before .loop in
+    same-stop (a .s .now) (a .t .now) (pre) (loop .k) (c .before .before .loop-test .taken) (sym (c .before .same-at .ensures) ∙ not-true _ (c .if1 .taken)) (loop .inv .1)
 
 add-k : tie.Need-add-k Inv-loop μ-loop
 add-k c = omega arith
@@ -31,7 +35,11 @@ loop-less c = omega arith
 
 loop-again : tie.Need-loop-again Inv-loop μ-loop
 loop-again c =
-    (omega (arith, c .before .before .loop-test .taken), same-next (c .before .before .before .before .args .s .now) (c .before .before .before .before .args .t .now) (c .before .before .before .before .pre) (c .before .before .before .loop .k) (c .before .before .loop-test .taken) (sym (c .before .same-at .ensures) ∙ not-false _ (c .if1 .left)) (c .before .before .before .loop .inv .1))
+    let a = c .before .before .before .before .args in
+    let pre = c .before .before .before .before .pre in
+    let loop = c .before .before .before .loop in
+    let loop-test = c .before .before .loop-test in
+    (omega (arith, loop-test .taken), same-next (a .s .now) (a .t .now) (pre) (loop .k) (loop-test .taken) (sym (c .before .same-at .ensures) ∙ not-false _ (c .if1 .left)) (loop .inv .1))
 
 returns-2 : tie.Need-returns-2 Inv-loop μ-loop
 returns-2 c = same-end (c .before .before .args .s .now) (c .before .before .args .t .now) (c .before .before .pre) (c .before .loop .k) (c .loop-test .left) (c .before .loop .inv .1)

@@ -21,12 +21,17 @@ same-length : tie.Need-same-length
 same-length c = search needs
 
 returns : tie.Need-returns
-returns c = (
+returns c =
+    let a = c .before .before .before .before .before .before .before .before .before .args in
+    let pre = c .before .before .before .before .before .before .before .before .before .pre in
+    let path-point = c .before .before .before .before .before .before .before .path-point in
+    let same-words = c .before .before .before .before .same-words in
+    (
   λ P K.
-      let Q = c .before .before .before .before .before .before .before .path-point .ensures P (K .fresh) (K .long) in
-      c .both .ensures ∙ ap (λ (b : Bool). c .before .before .before .before .before .before .before .path-point .result .fits && b) (c .before .before .before .before .same-words .ensures) ∙ point-is (c .before .before .before .before .before .before .before .before .before .args .t .now) Q,
-  let K = c .before .before .before .before .before .before .before .before .before .pre .1 in
-      let Q = c .before .before .before .before .before .before .before .path-point .ensures _ (K .fresh) (K .long) in
+      let Q = path-point .ensures P (K .fresh) (K .long) in
+      c .both .ensures ∙ ap (λ (b : Bool). path-point .result .fits && b) (same-words .ensures) ∙ point-is (a .t .now) Q,
+  let K = pre .1 in
+      let Q = path-point .ensures _ (K .fresh) (K .long) in
       c .before .before .undo .ensures _ _ (Q .on) .is ∙ sym (K .fresh .is),
 )
 

@@ -42,10 +42,18 @@ uncommit-all-requires : tie.Need-uncommit-all-requires
 uncommit-all-requires c κs = (_, _, _, _, last-committed (last (c .before .before .before) (c .before .before .before .before .before .pre .3)))
 
 dlink-requires : tie.Need-dlink-requires
-dlink-requires c κs = let O = c .before .before .before .before .before .before .before .before .pre .3 in (_, _, _, _, _, again-list O (last (c .before .before .before .before .before .before) O) (table-was (c .before .before) O))
+dlink-requires c κs =
+    let pre = c .before .before .before .before .before .before .before .before .pre in
+    let d = c .before .before .before .before .before .before in
+    let O = pre .3 in (_, _, _, _, _, again-list O (last d O) (table-was (c .before .before) O))
 
 uncover-requires : tie.Need-uncover-requires
-uncover-requires c κs = let O = c .before .before .before .before .before .before .before .before .before .before .before .pre .3 in (_, _, _, _, last-covered (last (c .before .before .before .before .before .before .before .before .before) O) (table-was (c .before .before .before .before .before) O) (header-is (c .before .before .before .before .before .before .before) O))
+uncover-requires c κs =
+    let pre = c .before .before .before .before .before .before .before .before .before .before .before .pre in
+    let d = c .before .before .before .before .before .before .before .before .before in
+    let d′ = c .before .before .before .before .before .before .before in
+    let d″ = c .before .before .before .before .before in
+    let O = pre .3 in (_, _, _, _, last-covered (last d O) (table-was d″ O) (header-is d′ O))
 
 put-link-requires : tie.Need-put-link-requires
 put-link-requires c κs = (in-path (c .before .before .before .before .before .before .before .before .before .before .before .before .before .before .pre .3), omega arith)
@@ -57,15 +65,29 @@ same-length-2 : tie.Need-same-length-2
 same-length-2 c = search needs
 
 returns : tie.Need-returns
-returns c = λ P v above O.
-    back O (none-left O (next-is (c .before .before .before .before .before .before .before) O) (header-is (c .before .before .before .before .before .before .before .before .before .before .before .before) O) (c .before .before .before .before .before .before .if1 .taken))
-    (c .before .before .before .before .uncover .ensures P _ _ _ (last-covered (last (c .before .before .before .before .before .before .before .before .before .before .before .before .before .before) O) (table-was (c .before .before .before .before .before .before .before .before .before .before) O) (header-is (c .before .before .before .before .before .before .before .before .before .before .before .before) O))) (c .before .put-link .ensures)
+returns c =
+    let d = c .before .before .before .before .before .before .before .before .before .before .before .before .before .before in
+    let d′ = c .before .before .before .before .before .before .before .before .before .before .before .before in
+    let d″ = c .before .before .before .before .before .before .before .before .before .before in
+    let d‴ = c .before .before .before .before .before .before .before in
+    let if1 = c .before .before .before .before .before .before .if1 in
+    let uncover = c .before .before .before .before .uncover in
+    λ P v above O.
+    back O (none-left O (next-is d‴ O) (header-is d′ O) (if1 .taken))
+    (uncover .ensures P _ _ _ (last-covered (last d O) (table-was d″ O) (header-is d′ O))) (c .before .put-link .ensures)
 
 put-link-requires-2 : tie.Need-put-link-requires-2
-put-link-requires-2 c κs = let O = c .before .before .before .before .before .before .before .before .before .before .before .pre .3 in (in-path O, again-small O (table-was (c .before .before .before .before .before) O) (next-one (c .before) O))
+put-link-requires-2 c κs =
+    let pre = c .before .before .before .before .before .before .before .before .before .before .before .pre in
+    let d = c .before .before .before .before .before in
+    let O = pre .3 in (in-path O, again-small O (table-was d O) (next-one (c .before) O))
 
 commit-all-requires : tie.Need-commit-all-requires
-commit-all-requires c κs = let O = c .before .before .before .before .before .before .before .before .before .before .before .before .before .before .pre .3 in (_, _, _, again-commit O (table-was (c .before .before .before .before .before .before .before .before) O) (next-one (c .before .before .before .before) O))
+commit-all-requires c κs =
+    let pre = c .before .before .before .before .before .before .before .before .before .before .before .before .before .before .pre in
+    let d = c .before .before .before .before .before .before .before .before in
+    let d′ = c .before .before .before .before in
+    let O = pre .3 in (_, _, _, again-commit O (table-was d O) (next-one d′ O))
 
 same-length-3 : tie.Need-same-length-3
 same-length-3 c = search needs
@@ -74,9 +96,13 @@ same-length-4 : tie.Need-same-length-4
 same-length-4 c = search needs
 
 returns-2 : tie.Need-returns-2
-returns-2 c = λ P v above O.
-    let N = next-one (c .before .before .before .before .before .before) O in
-    onward O (table-was (c .before .before .before .before .before .before .before .before .before .before) O) N (c .before .commit-all .ensures P _ _ (again-commit O (table-was (c .before .before .before .before .before .before .before .before .before .before) O) N)) (c .before .before .before .before .put-link2 .ensures)
+returns-2 c =
+    let d = c .before .before .before .before .before .before .before .before .before .before in
+    let d′ = c .before .before .before .before .before .before in
+    let put-link2 = c .before .before .before .before .put-link2 in
+    λ P v above O.
+    let N = next-one d′ O in
+    onward O (table-was d O) N (c .before .commit-all .ensures P _ _ (again-commit O (table-was d O) N)) (put-link2 .ensures)
 
 pub try-again-spec : {M : Type 1} → statement M
 try-again-spec =
