@@ -56,14 +56,13 @@ loop-again c =
     let loop = c .before .before .before .before .before .before .loop in
     let d = c .before .before .before .before .before in
     let loop-test = c .before .before .before .before .before .loop-test in
-    let d′ = c .before .before .before in
-    (
-  λ P s O.
-      at-line d O .next (c .before .put-link .ensures ∙ ap (λ (m : ℕ). set (loop .found) (loop .l - 1) (pos m)) (number-is d′ O))
-      (omega (arith, loop-test .taken, loop .inv .1, loop .inv .2, pre .1)),
-  c .before .put-link .kept .0 ∙ loop .inv .1,
-  omega (arith, loop .inv .2),
-)
+    let d′ = c .before .before .before in (
+      λ P s O.
+          at-line d O .next (c .before .put-link .ensures ∙ ap (λ (m : ℕ). set (loop .found) (loop .l - 1) (pos m)) (number-is d′ O))
+          (omega (arith, loop-test .taken, loop .inv .1, loop .inv .2, pre .1)),
+      c .before .put-link .kept .0 ∙ loop .inv .1,
+      omega (arith, loop .inv .2),
+    )
 
 same-length : tie.Need-same-length Inv-loop μ-loop
 same-length c = c .before .loop .inv .1

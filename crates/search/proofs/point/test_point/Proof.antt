@@ -25,15 +25,14 @@ returns c =
     let a = c .before .before .before .before .before .before .before .before .before .args in
     let pre = c .before .before .before .before .before .before .before .before .before .pre in
     let path-point = c .before .before .before .before .before .before .before .path-point in
-    let same-words = c .before .before .before .before .same-words in
-    (
-  λ P K.
-      let Q = path-point .ensures P (K .fresh) (K .long) in
-      c .both .ensures ∙ ap (λ (b : Bool). path-point .result .fits && b) (same-words .ensures) ∙ point-is (a .t .now) Q,
-  let K = pre .1 in
-      let Q = path-point .ensures _ (K .fresh) (K .long) in
-      c .before .before .undo .ensures _ _ (Q .on) .is ∙ sym (K .fresh .is),
-)
+    let same-words = c .before .before .before .before .same-words in (
+      λ P K.
+          let Q = path-point .ensures P (K .fresh) (K .long) in
+          c .both .ensures ∙ ap (λ (b : Bool). path-point .result .fits && b) (same-words .ensures) ∙ point-is (a .t .now) Q,
+      let K = pre .1 in
+          let Q = path-point .ensures _ (K .fresh) (K .long) in
+          c .before .before .undo .ensures _ _ (Q .on) .is ∙ sym (K .fresh .is),
+    )
 
 pub test-point-spec : {M : Type 1} → statement M
 test-point-spec =
