@@ -15,6 +15,7 @@ use Rattle.rules.specs.Problem.{Entry, Problem, items}
 use Rattle.rules.specs.Knuth.{Has}
 use Rattle.rules.specs.Order.{has-item, Choice, place-of}
 use Rattle.rules.specs.Links.{Event, Node, others, own, touch, commit-node, commit, try, committed, cost, top, colour-at, run-events}
+use Rattle.words.specs.Read.{Link}
 use Rattle.laws.specs.Lists.{Apart, apart-nil, apart-cons, apart-with}
 use Rattle.laws.specs.Faults.{Good, ranged, simple}
 use Rattle.laws.specs.Order.{agree→, has-item→}
@@ -25,9 +26,8 @@ use Rattle.tables.specs.Met.{bare-own, chosen-marked, chosen-held}
 use Rattle.links.specs.Moves.{bare, Done, CanCover, Covered, CanCommit, Committed}
 use Rattle.links.specs.Steps.{CanTouch, CanPurify, Purified, CanCommitNode, CommittedNode}
 use Rattle.links.proofs.Words.{clash, done-at}
-use Rattle.links.proofs.Cursor.{Front}
-use Rattle.links.proofs.Round.{spot, positive}
-use Rattle.links.proofs.Lap.{Lap, Right, Left, left-node, before, left-split, left-words}
+use Rattle.links.proofs.Round.{positive}
+use Rattle.links.proofs.Lap.{Lap, Right, right-node, right-header, right-next, Left, left-node, left-header, before, left-split, left-words}
 use Rattle.links.proofs.Hiding.{others-few}
 use Rattle.links.proofs.Bounds.{commit-few}
 
@@ -255,9 +255,10 @@ module _ {P : Problem} {held : List Entry} {n : ℕ} {t₀ : List ℤ} {c : Choi
       still-marked : marked P (y .entry ∷ committed h xs) (y .at) ≡ has-item (y .entry .item) (committed h xs)
       still-marked = ap (λ (l : List Entry). marked P l (y .at)) (sym (committed-snoc h xs y)) ∙ marked-at (xs ++ (y ∷ []))
 
-  pub commit-lap : Lap P c x t₀
+  pub commit-lap : Lap P c n x t₀
   unfolding commit
   commit-lap = record {
+    n-is = C .n-is;
     is = C .is;
     done = commit P h;
     step = commit-after P h;
@@ -275,14 +276,14 @@ module _ {P : Problem} {held : List Entry} {n : ℕ} {t₀ : List ℤ} {c : Choi
       let r = placed-range P (F C .placed-in) in
       omega (arith, K .counts, commit-few P (C .shown .small) (own c ∷ held) (K .past), ap length (K .split), length-append (K .past) (K .ahead), others-few c, C .shown .small)
 
-  module _ {t : List ℤ} {q u : ℕ} (K : Right (commit-lap C) t q u) (f : Front spot (K .ahead) q) where
-    pub commit-at : {j : ℕ} → j ≡ suc (f .0 .entry .item) → CanCommitNode P (committed (own c ∷ held) (K .past)) n t (f .0) q j
+  module _ {t : List ℤ} {q u : ℕ} (K : Right (commit-lap C) t q u) (ne : q ≢ x) (b : positive t (top n q) ≡ true) where
+    pub commit-at : {j : ℕ} → Link t (top n q) j → CanCommitNode P (committed (own c ∷ held) (K .past)) n t (right-node K ne b .0) q j
     unfolding commit-lap
-    commit-at e = can-commit-node C (K .past) (K .ahead) (K .split) (f .0) (f .1) (f .2) (f .3) e (K .words)
+    commit-at L = let (y, ys, e, w) = right-node K ne b in can-commit-node C (K .past) (K .ahead) (K .split) y ys e w (right-header K ne b L) (K .words)
 
-    pub commit-did : {t′ : List ℤ} {r : ℕ} → Done (items P) t (commit-after P (own c ∷ held) (K .past) (f .0)) t′ r → Done (items P) t (commit-lap C .step (K .past) (f .0)) t′ r
+    pub commit-next : {t′ : List ℤ} {r : ℕ} → Done (items P) t (commit-after P (own c ∷ held) (K .past) (right-node K ne b .0)) t′ r → Right (commit-lap C) t′ (q + 1) (u + r)
     unfolding commit-lap
-    commit-did D = D
+    commit-next D = right-next K ne b D
 
   pub commit-all : {t : List ℤ} {u : ℕ} → Done (items P) t₀ (commit-lap C .done (others c)) t u → Done n t₀ (try P held c) t u
   unfolding commit-lap try
@@ -293,14 +294,14 @@ module _ {P : Problem} {held : List Entry} {n : ℕ} {t₁ t₀ : List ℤ} {c :
   unfolding commit-lap try
   uncommit-words = Q .is ∙ ap (λ (k : ℕ). run-events k t₁ (commit P (own c ∷ held) (others c))) (Q .can .n-is)
 
-  module _ {t : List ℤ} {q : ℕ} (K : Left (commit-lap (Q .can)) t q) (ne : q ≢ x) (b : positive t (top (items P) q) ≡ true) where
-    pub uncommit-at : {j : ℕ} → j ≡ suc (left-node K ne b .1 .entry .item)
+  module _ {t : List ℤ} {q : ℕ} (K : Left (commit-lap (Q .can)) t q) (ne : q ≢ x) (b : positive t (top n q) ≡ true) where
+    pub uncommit-at : {j : ℕ} → Link t (top n q) j
         → CommittedNode P (committed (own c ∷ held) (left-node K ne b .0)) n (before K ne b) t (left-node K ne b .1) q j
     unfolding commit-lap
-    uncommit-at ej =
+    uncommit-at L =
         let (ys, y, z, w) = left-node K ne b in
         record {
-          can = can-commit-node (Q .can) ys (y ∷ K .ahead) (left-split K ne b) y (K .ahead) refl w ej refl;
+          can = can-commit-node (Q .can) ys (y ∷ K .ahead) (left-split K ne b) y (K .ahead) refl w (left-header K ne b L) refl;
           still = still-marked (Q .can) ys (y ∷ K .ahead) (left-split K ne b) y (K .ahead) refl;
           is = left-words K ne b;
         }

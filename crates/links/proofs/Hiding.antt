@@ -3,7 +3,7 @@ use mathlib.Core.Path.{_≡_, refl, sym, ap, _∙_, subst}
 use mathlib.Core.Logic.{_⊎_, inl, inr, _≢_}
 use mathlib.Core.Bool.{Bool, true, false, not}
 use mathlib.Core.List.{List, [], _∷_, _++_, map, foldl, List·Memᴰ as Mem, List·Memᴰ·head as here, Memᴰ·append-right as in-right}
-use Prim.Native.Nat.{ℕ, zero, suc, _+_, _-_, _*_, _<_, _≤_}
+use Prim.Native.Nat.{ℕ, zero, suc, _+_, _*_, _<_, _≤_}
 use native.Mathlib.Omega.{arith}
 use lib.Dec.{T, T-not, eqb}
 use lib.IntN.{ℤ}
@@ -22,9 +22,9 @@ use Rattle.tables.specs.Views.{View, after, Table, Fits, Fit, shade, event-tabl
 use Rattle.tables.specs.Met.{whole-fit}
 use Rattle.links.specs.Moves.{Done}
 use Rattle.links.specs.Steps.{SomeUnlink, SomeRelink, OneNode, unless, Short, OneHidden, CanHide, Hidden}
-use Rattle.links.proofs.Cursor.{Front, flat-snoc}
-use Rattle.links.proofs.Round.{spot, positive}
-use Rattle.links.proofs.Lap.{Lap, Right, Left, left-node, before, left-split, left-words}
+use Rattle.links.proofs.Cursor.{flat-snoc}
+use Rattle.links.proofs.Round.{positive}
+use Rattle.links.proofs.Lap.{Lap, Right, right-node, right-next, Left, left-node, before, left-split, left-words}
 
 -- ---- one node
 
@@ -267,9 +267,10 @@ module _ {P : Problem} {W : View} {n : ℕ} {t₀ : List ℤ} {held : List Entry
       one-is : {q : ℕ} → q ≡ x .at → unless (now .marked q) q ≡ hide-node held x
       one-is w = rw w (ap (λ (b : Bool). unless b (x .at)) told-now)
 
-  pub hide-lap : Lap P c p t₀
+  pub hide-lap : Lap P c n p t₀
   unfolding flat
   hide-lap = record {
+    n-is = C .n-is;
     is = C .is;
     done = hides held;
     step = λ xs x. hide-node held x;
@@ -288,14 +289,14 @@ module _ {P : Problem} {W : View} {n : ℕ} {t₀ : List ℤ} {held : List Entry
       let r = placed-range P (C .placed-in) in
       omega (arith, K .counts, hides-few held (K .past), ap length (K .split), length-append (K .past) (K .ahead), others-few c)
 
-  module _ {t : List ℤ} {q u : ℕ} (K : Right (hide-lap C) t q u) (f : Front spot (K .ahead) q) where
-    pub hide-at : OneNode P (foldl after W (hides held (K .past))) n t (f .0) q
+  module _ {t : List ℤ} {q u : ℕ} (K : Right (hide-lap C) t q u) (ne : q ≢ p) (b : positive t (top n q) ≡ true) where
+    pub hide-at : OneNode P (foldl after W (hides held (K .past))) n t (right-node K ne b .0) q
     unfolding hide-lap
-    hide-at = one-node C (K .past) (K .ahead) (K .split) (f .0) (f .1) (f .2) (f .3) (K .words)
+    hide-at = let (x, ys, e, w) = right-node K ne b in one-node C (K .past) (K .ahead) (K .split) x ys e w (K .words)
 
-    pub hide-did : {t′ : List ℤ} {r : ℕ} → Done (items P) t (unless (foldl after W (hides held (K .past)) .marked q) q) t′ r → Done (items P) t (hide-lap C .step (K .past) (f .0)) t′ r
+    pub hide-next : {t′ : List ℤ} {r : ℕ} → Done (items P) t (unless (foldl after W (hides held (K .past)) .marked q) q) t′ r → Right (hide-lap C) t′ (q + 1) (u + r)
     unfolding hide-lap
-    hide-did D = rw (one-is C (K .past) (K .ahead) (K .split) (f .0) (f .1) (f .2) (f .3)) at D
+    hide-next D = let (x, ys, e, w) = right-node K ne b in right-next K ne b (rw (one-is C (K .past) (K .ahead) (K .split) x ys e w) at D)
 
   pub hide-all : {t : List ℤ} {u : ℕ} → Done (items P) t₀ (hide-lap C .done (others c)) t u → Done (items P) t₀ (hide P held c) t u
   unfolding hide-lap
@@ -306,7 +307,7 @@ module _ {P : Problem} {W : View} {n : ℕ} {t₁ t₀ : List ℤ} {held : List 
   unfolding hide-lap
   unhide-words = H .is ∙ ap (run-events (items P) t₁) (hide-is P held c)
 
-  module _ {t : List ℤ} {q : ℕ} (K : Left (hide-lap (H .can)) t q) (ne : q ≢ p) (b : positive t (top (items P) q) ≡ true) where
+  module _ {t : List ℤ} {q : ℕ} (K : Left (hide-lap (H .can)) t q) (ne : q ≢ p) (b : positive t (top n q) ≡ true) where
     pub unhide-at : OneHidden P (foldl after W (hides held (left-node K ne b .0))) n (before K ne b) t (left-node K ne b .1) q
     unfolding hide-lap
     unhide-at =

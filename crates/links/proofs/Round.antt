@@ -253,8 +253,8 @@ right-less l p q ne h = go (decLt p q)
     go (yes k) = rw (lt-ltb p q k, lt-ltb p (q + 1) (omega arith)) (omega arith)
     go (no k) = rw (le-ltb p q (omega arith), le-ltb p (q + 1) (omega arith)) (omega arith)
 
-pub right-turns : (l p q q′ : ℕ) → p < q → q′ ≤ p → q < l → way-right l p q′ < way-right l p q
-right-turns l p q q′ h k b = rw (lt-ltb p q h, le-ltb p q′ k) (omega arith)
+pub turn-less : (l p q q′ : ℕ) → p < q → q′ ≤ p → q < l → way-right l p q′ < way-right l p q
+turn-less l p q q′ h k b = rw (lt-ltb p q h, le-ltb p q′ k) (omega arith)
 
 abbrev pub way-left : ℕ → ℕ → ℕ → ℕ
 way-left l p q = cond (ltb q p) (l + q + 1) (q - p)
@@ -266,5 +266,5 @@ left-less l p q ne h = go (decLt q p)
     go (yes k) = rw (lt-ltb q p k, lt-ltb (q - 1) p (omega arith)) (omega arith)
     go (no k) = rw (le-ltb q p (omega arith), le-ltb (q - 1) p (omega arith)) (omega arith)
 
-pub left-turns : (l p q q′ : ℕ) → q < p → p ≤ q′ → q′ < l → way-left l p q′ < way-left l p q
-left-turns l p q q′ h k b = rw (lt-ltb q p h, le-ltb q′ p k) (omega arith)
+pub back-less : (l p q q′ : ℕ) → q < p → p ≤ q′ → q′ < l → way-left l p q′ < way-left l p q
+back-less l p q q′ h k b = rw (lt-ltb q p h, le-ltb q′ p k) (omega arith)

@@ -3,7 +3,7 @@ use mathlib.Core.Path.{_≡_, refl, sym, ap, _∙_}
 use mathlib.Core.Logic.{_≢_}
 use mathlib.Core.Bool.{not}
 use mathlib.Core.List.{List, [], _∷_, _++_, map, append-nil, List·Memᴰ as Mem, List·Memᴰ·head as here, Memᴰ·append-left as in-left, Memᴰ·append-right as in-right}
-use Prim.Native.Nat.{ℕ, zero, suc, _+_, _-_, _*_, _<_}
+use Prim.Native.Nat.{ℕ, zero, suc, _+_, _-_, _<_}
 use native.Mathlib.Omega.{arith}
 use lib.IntN.{ℤ, pos}
 use lib.ListN.{length}
@@ -15,13 +15,15 @@ use Rattle.rules.specs.Links.{Event, own, linked, met, ring-part, touch, first-
 use Rattle.laws.specs.Lists.{keep-length, among}
 use Rattle.laws.specs.Faults.{Good}
 use Rattle.tables.specs.Nodes.{Of, linked-of, nodes, placed-range}
+use Rattle.words.specs.Read.{Link}
 use Rattle.tables.specs.Touch.{unlinks}
 use Rattle.tables.specs.Undo.{word-of}
 use Rattle.tables.specs.Views.{Table}
 use Rattle.tables.specs.Shows.{view, since, fold-list}
 use Rattle.tables.specs.Met.{met-all, walked, own-list, met-table, met-cursor, met-whole, met-colour}
 use Rattle.links.specs.Moves.{Done}
-use Rattle.links.specs.Steps.{Short, CanTouch, CanMeet}
+use Rattle.links.specs.Steps.{HasLink, Short, CanTouch, CanMeet}
+use Rattle.links.proofs.Words.{has-link, read}
 use Rattle.links.proofs.Cursor.{Front, front, no-front, first-all, last-all, last-snoc, map-length, split-on, run-snoc, cost-snoc}
 use Rattle.links.proofs.Bounds.{spans, spans-length, spans-part, linked-few, met-all-few}
 
@@ -142,28 +144,46 @@ module _ {P : Problem} {held : List Entry} {n : ℕ} {t₀ : List ℤ} {e : Entr
   abbrev pub chain : List Choice
   chain = linked P held (e .item)
 
-  pub start-length : word t₀ (top (items P) (suc (e .item))) ≡ pos (length chain)
+  start-length : word t₀ (top (items P) (suc (e .item))) ≡ pos (length chain)
   unfolding flat
   start-length = length-word C [] chain refl refl
 
-  pub start-first : word t₀ (down (items P) (suc (e .item))) ≡ pos (first-or (suc (e .item)) (map node chain))
+  start-first : word t₀ (down (items P) (suc (e .item))) ≡ pos (first-or (suc (e .item)) (map node chain))
   unfolding flat last-or
   start-first = next-word C [] chain refl refl
 
-  pub touching-start : {l p : ℕ} → l ≡ length chain → p ≡ first-or (suc (e .item)) (map node chain) → Touching P held e t₀ t₀ l p 0
-  unfolding flat cost
-  touching-start el ep = record { past = []; ahead = chain; split = refl; words = refl; counts = refl; left-is = el; place = ep }
+  -- the header's words are read
+  module _ {i : ℕ} (is : i ≡ suc (e .item)) where
+    pub has-length : HasLink t₀ (top n i)
+    has-length = has-link t₀ (omega (arith, C .n-is)) start-length (omega (arith, head-fair C .1, C .shown .shows .size))
+
+    pub has-first : HasLink t₀ (down n i)
+    has-first = has-link t₀ (omega (arith, C .n-is)) start-first (omega (arith, head-fair C .1, C .shown .shows .size))
+
+    pub touching-start : {l p : ℕ} → Link t₀ (top n i) l → Link t₀ (down n i) p → Touching P held e t₀ t₀ l p 0
+    unfolding flat cost
+    touching-start L F = record {
+      past = [];
+      ahead = chain;
+      split = refl;
+      words = refl;
+      counts = refl;
+      left-is = read t₀ (omega (arith, C .n-is)) start-length L;
+      place = read t₀ (omega (arith, C .n-is)) start-first F;
+    }
 
   module _ {t : List ℤ} {l p u : ℕ} (K : Touching P held e t₀ t l p u) where
-    pub touching-size : length t ≡ 2 * (items P + 2) + 4 * nodes P
-    touching-size = table-now C (K .past) (K .ahead) (K .split) (K .words) .size
+    pub touching-long : length t ≡ length t₀
+    touching-long = table-now C (K .past) (K .ahead) (K .split) (K .words) .size ∙ sym (C .shown .shows .size)
 
-    pub touching-inside : p < nodes P
+    touching-inside : p < nodes P
     touching-inside = omega (arith, K .place, first-fair C (K .past) (K .ahead) (K .split) .1)
 
-    module _ (ne : p ≢ suc (e .item)) where
+    -- ---- at a node
+
+    module _ {i : ℕ} (is : i ≡ suc (e .item)) (ne : p ≢ i) where
       pub met-now : Front node (K .ahead) p
-      met-now = front node (suc (e .item)) (K .ahead) (K .place) ne
+      met-now = front node (suc (e .item)) (K .ahead) (K .place) (λ z. ne (z ∙ sym is))
 
       pub touching-some : 0 < l
       touching-some = omega (arith, K .left-is, ap length (met-now .2))
@@ -180,13 +200,18 @@ module _ {P : Problem} {held : List Entry} {n : ℕ} {t₀ : List ℤ} {e : Entr
             D .is ∙ ap (λ (z : List ℤ). run-events (items P) z (meet P held e (met-now .0))) (K .words)
             ∙ sym (run-snoc (meet P held e) (K .past) (met-now .0) (items P) t₀)
 
-        pub next-down : word t′ (down (items P) p) ≡ pos (first-or (suc (e .item)) (map node (met-now .1)))
+        next-down : word t′ (down (items P) p) ≡ pos (first-or (suc (e .item)) (map node (met-now .1)))
         next-down =
             ap (λ (k : ℕ). word t′ (down (items P) k)) (met-now .3 ∙ sym (last-snoc node (suc (e .item)) (K .past) (met-now .0)))
             ∙ next-word C (K .past ++ (met-now .0 ∷ [])) (met-now .1) split′ words′
 
-        pub touching-next : {l′ p′ : ℕ} → l′ ≡ l - 1 → p′ ≡ first-or (suc (e .item)) (map node (met-now .1)) → Touching P held e t₀ t′ l′ p′ (u + r)
-        touching-next el ep = record {
+        pub has-next : HasLink t′ (down n p)
+        has-next =
+            has-link t′ (omega (arith, C .n-is)) next-down
+            (omega (arith, touching-inside, table-now C (K .past ++ (met-now .0 ∷ [])) (met-now .1) split′ words′ .size))
+
+        onward : {p′ : ℕ} → p′ ≡ first-or (suc (e .item)) (map node (met-now .1)) → Touching P held e t₀ t′ (l - 1) p′ (u + r)
+        onward ep = record {
           past = K .past ++ (met-now .0 ∷ []);
           ahead = met-now .1;
           split = split′;
@@ -196,18 +221,27 @@ module _ {P : Problem} {held : List Entry} {n : ℕ} {t₀ : List ℤ} {e : Entr
           place = ep;
         }
 
+        pub touching-next : {p′ : ℕ} → Link t′ (down n p) p′ → Touching P held e t₀ t′ (l - 1) p′ (u + r)
+        touching-next L = onward (read t′ (omega (arith, C .n-is)) next-down L)
+
         pub sum-few : u + r < nodes P
-        sum-few = touching-few (touching-next {l′ = l - 1} refl refl)
+        sum-few = touching-few (onward refl)
 
     -- ---- the end
 
-    module _ (h : p ≡ suc (e .item)) where
-      pub all : K .past ≡ chain
+    module _ {i : ℕ} (is : i ≡ suc (e .item)) (h : p ≡ i) where
+      all : K .past ≡ chain
       all =
-          let z = no-front node (suc (e .item)) (K .ahead) (λ c m. other C (K .past) (K .ahead) (K .split) c (in-right (K .past) m)) (sym (K .place) ∙ h) in
+          let z = no-front node (suc (e .item)) (K .ahead) (λ c m. other C (K .past) (K .ahead) (K .split) c (in-right (K .past) m)) (sym (K .place) ∙ h ∙ is) in
           sym (K .split ∙ ap (λ (a : List Choice). K .past ++ a) z ∙ append-nil (K .past))
+
+      pub met-list : t ≡ run-events (items P) t₀ (met-all P held e chain)
+      met-list = K .words ∙ ap (λ (l : List Choice). run-events (items P) t₀ (met-all P held e l)) all
+
+      pub paid : u ≡ cost (met-all P held e chain)
+      paid = K .counts ∙ ap (λ (l : List Choice). cost (met-all P held e l)) all
 
       pub purified : 0 < e .colour → Done (items P) t₀ (touch P held e) t u
       purified s =
-          let x : touch P held e ≡ met-all P held e (K .past) = touch-coloured P held e s ∙ ap (met-all P held e) (sym all) in
-          record { is = K .words ∙ ap (run-events (items P) t₀) (sym x); counts = K .counts ∙ ap cost (sym x) }
+          let x = touch-coloured P held e s in
+          record { is = met-list ∙ ap (run-events (items P) t₀) (sym x); counts = paid ∙ ap cost (sym x) }

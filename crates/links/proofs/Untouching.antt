@@ -12,14 +12,16 @@ use Rattle.rules.specs.Words.{word}
 use Rattle.rules.specs.Problem.{Entry, Problem, items}
 use Rattle.rules.specs.Order.{one-colour, Choice, node}
 use Rattle.rules.specs.Links.{own, linked, met, last-or, top, up, colour-at, run-events}
+use Rattle.words.specs.Read.{Link}
 use Rattle.tables.specs.Nodes.{nodes, linked-of}
 use Rattle.tables.specs.Shows.{view}
 use Rattle.tables.specs.Views.{View, after, shade, foldl-append}
 use Rattle.tables.specs.Met.{met-all, walked, own-marked}
-use Rattle.links.specs.Steps.{Hidden, CanTouch, Met}
+use Rattle.links.specs.Steps.{HasLink, Hidden, CanTouch, Met}
+use Rattle.links.proofs.Words.{has-link, read}
 use Rattle.links.proofs.Cursor.{Rear, rear, no-rear, split-back, run-snoc, flat-snoc}
 use Rattle.links.proofs.Found.{node-in}
-use Rattle.links.proofs.Touching.{meet, chain, table-now, other, short-now, last-fair, previous-word, length-word, can-meet}
+use Rattle.links.proofs.Touching.{head-fair, meet, chain, table-now, other, short-now, last-fair, previous-word, length-word, can-meet}
 
 -- a node that was hidden when it was met
 pub met-hidden : {P : Problem} {W : View} {n : ℕ} {t₁ t : List ℤ} {held : List Entry} {e : Entry} {d : Choice} {q : ℕ} → Met P W n t₁ t held e d q
@@ -48,31 +50,46 @@ module _ {P : Problem} {held : List Entry} {n : ℕ} {t₁ : List ℤ} {e : Entr
     pub end-size : length t ≡ 2 * (items P + 2) + 4 * nodes P
     end-size = table-now C (chain C) [] whole words .size
 
-    pub end-length : word t (top (items P) (suc (e .item))) ≡ pos (length (chain C))
+    end-length : word t (top (items P) (suc (e .item))) ≡ pos (length (chain C))
     end-length = length-word C (chain C) [] whole words
 
-    pub end-last : word t (up (items P) (suc (e .item))) ≡ pos (last-or (suc (e .item)) (map node (chain C)))
+    end-last : word t (up (items P) (suc (e .item))) ≡ pos (last-or (suc (e .item)) (map node (chain C)))
     end-last = previous-word C (chain C) [] whole words
 
-    pub untouching-start : {l p : ℕ} → l ≡ length (chain C) → p ≡ last-or (suc (e .item)) (map node (chain C)) → Untouching P held e t₁ t l p
-    untouching-start el ep = record { past = chain C; ahead = []; split = whole; words = words; left-is = el; place = ep }
+    -- the header's words are read
+    module _ {i : ℕ} (is : i ≡ suc (e .item)) where
+      pub still-length : HasLink t (top n i)
+      still-length = has-link t (omega (arith, C .n-is)) end-length (omega (arith, head-fair C .1, end-size))
+
+      pub has-last : HasLink t (up n i)
+      has-last = has-link t (omega (arith, C .n-is)) end-last (omega (arith, head-fair C .1, end-size))
+
+      pub untouching-start : {l p : ℕ} → Link t (top n i) l → Link t (up n i) p → Untouching P held e t₁ t l p
+      untouching-start L F = record {
+        past = chain C;
+        ahead = [];
+        split = whole;
+        words = words;
+        left-is = read t (omega (arith, C .n-is)) end-length L;
+        place = read t (omega (arith, C .n-is)) end-last F;
+      }
 
   module _ {t : List ℤ} {l p : ℕ} (K : Untouching P held e t₁ t l p) where
     pub untouching-size : length t ≡ 2 * (items P + 2) + 4 * nodes P
     untouching-size = table-now C (K .past) (K .ahead) (K .split) (K .words) .size
 
-    pub untouching-inside : p < nodes P
+    untouching-inside : p < nodes P
     untouching-inside = omega (arith, K .place, last-fair C (K .past) (K .ahead) (K .split) .1)
 
-    pub untouching-end : p ≡ suc (e .item) → t ≡ t₁
+    pub untouching-end : {i : ℕ} → i ≡ suc (e .item) → p ≡ i → t ≡ t₁
     unfolding flat
-    untouching-end h =
-        let z = no-rear node (suc (e .item)) (K .past) (λ c m. other C (K .past) (K .ahead) (K .split) c (in-left (K .ahead) m)) (sym (K .place) ∙ h) in
+    untouching-end is h =
+        let z = no-rear node (suc (e .item)) (K .past) (λ c m. other C (K .past) (K .ahead) (K .split) c (in-left (K .ahead) m)) (sym (K .place) ∙ h ∙ is) in
         K .words ∙ ap (λ (x : List Choice). run-events (items P) t₁ (met-all P held e x)) z
 
-    module _ (ne : p ≢ suc (e .item)) where
+    module _ {i : ℕ} (is : i ≡ suc (e .item)) (ne : p ≢ i) where
       pub met-last : Rear node (K .past) p
-      met-last = rear node (suc (e .item)) (K .past) (K .place) ne
+      met-last = rear node (suc (e .item)) (K .past) (K .place) (λ z. ne (z ∙ sym is))
 
       abbrev ys : List Choice
       ys = met-last .0
@@ -117,15 +134,18 @@ module _ {P : Problem} {held : List Entry} {n : ℕ} {t₁ : List ℤ} {e : Entr
       }
 
       module _ {t′ : List ℤ} (w : t′ ≡ fore) where
-        pub next-up : word t′ (up (items P) p) ≡ pos (last-or (suc (e .item)) (map node (met-last .0)))
+        next-up : word t′ (up (items P) p) ≡ pos (last-or (suc (e .item)) (map node (met-last .0)))
         next-up = ap (λ (k : ℕ). word t′ (up (items P) k)) (met-last .3) ∙ previous-word C ys (c ∷ K .ahead) split′ w
 
-        pub untouching-next : {l′ p′ : ℕ} → l′ ≡ l - 1 → p′ ≡ last-or (suc (e .item)) (map node (met-last .0)) → Untouching P held e t₁ t′ l′ p′
-        untouching-next el ep = record {
+        pub has-previous : HasLink t′ (up n p)
+        has-previous = has-link t′ (omega (arith, C .n-is)) next-up (omega (arith, untouching-inside, table-now C ys (c ∷ K .ahead) split′ w .size))
+
+        pub untouching-next : {p′ : ℕ} → Link t′ (up n p) p′ → Untouching P held e t₁ t′ (l - 1) p′
+        untouching-next L = record {
           past = ys;
           ahead = c ∷ K .ahead;
           split = split′;
           words = w;
           left-is = omega (arith, K .left-is, ap length (met-last .2), length-append ys (c ∷ []));
-          place = ep;
+          place = read t′ (omega (arith, C .n-is)) next-up L;
         }

@@ -2,18 +2,18 @@
 use mathlib.Core.Path.{_≡_, sym, ap, _∙_, subst}
 use mathlib.Core.Bool.{Bool, true, false}
 use mathlib.Core.List.{List}
-use Prim.Native.Nat.{ℕ, suc, _<_}
+use Prim.Native.Nat.{ℕ, suc, _+_, _*_, _<_}
 use native.Mathlib.Omega.{arith}
 use lib.IntN.{ℤ, pos}
 use lib.ListN.{length, set}
 use Rattle.rules.specs.Words.{word, nat}
-use Rattle.rules.specs.Problem.{Problem, items}
-use Rattle.rules.specs.Links.{link, top, up, down, left, right, Event, unlink, remove, join, fall, apply}
-use Rattle.words.specs.Read.{Natural, Link, Above, CanRise, rise}
+use Rattle.rules.specs.Problem.{Entry, Problem, items}
+use Rattle.rules.specs.Links.{link, top, up, down, colour-at, left, right, Event, unlink, remove, join, fall, apply}
+use Rattle.words.specs.Read.{Link, Above, CanRise}
 use Rattle.tables.specs.Nodes.{nodes}
-use Rattle.tables.specs.Undo.{undo, relink, join-length, join-else}
+use Rattle.tables.specs.Undo.{undo, rise, relink, join-length, join-else}
 use Rattle.links.specs.Moves.{Done}
-use Rattle.links.specs.Steps.{Between, Ringed}
+use Rattle.links.specs.Steps.{HasLink, Stands, Between, CanRelink, Ringed, Says}
 
 -- ---- reading the word at a, which is the place b
 
@@ -21,8 +21,8 @@ module _ (t : List ℤ) {a b k : ℕ} (e : a ≡ b) (w : word t b ≡ pos k) whe
   word-at : word t a ≡ pos k
   word-at = ap (λ (j : ℕ). word t j) e ∙ w
 
-  pub natural : Natural t a
-  natural = rw word-at tt
+  pub has-link : b < length t → HasLink t a
+  has-link h = (omega arith, rw word-at tt)
 
   pub read : {r : ℕ} → Link t a r → r ≡ k
   read L = L .is ∙ ap nat word-at
@@ -36,70 +36,105 @@ clash e f = let z : _≡_ {A = ℕ} 0 1 = cc in omega arith
 
 -- ---- a node's neighbours are joined, to each other or to the node, and then the length of its list changes
 
-module _ {P : Problem} {n : ℕ} {t : List ℤ} {i q u d : ℕ} (B : Between P n t i q u d) {x′ u′ d′ a b m : ℕ} (ex : x′ ≡ suc i) (eu : u′ ≡ u) (ed : d′ ≡ d)
-    (ea : a ≡ down n u′) (eb : b ≡ up n d′) (em : m ≡ top n x′) (y z : ℕ) {t₁ t₂ : List ℤ} (f : t₁ ≡ set t a (pos y)) (g : t₂ ≡ set t₁ b (pos z)) where
-  m-is : m ≡ top (items P) (suc i)
-  m-is = omega (arith, B .n-is)
+module _ {P : Problem} {n : ℕ} {t : List ℤ} {i q u d : ℕ} (B : Between P n t i q u d) where
+  pub has-stand : HasLink t (top n q) × HasLink t (up n q) × HasLink t (down n q)
+  has-stand =
+      let e : top n q ≡ top (items P) q = omega (arith, B .n-is) in
+      let h : top (items P) q + 3 < length t = omega (arith, B .inside, B .size) in
+      (has-link t e (B .top-is) (omega arith), has-link t (omega arith) (B .up-is) (omega arith), has-link t (omega arith) (B .down-is) (omega arith))
 
-  joined : t₂ ≡ join t (down (items P) u) (pos y) (up (items P) d) (pos z)
-  joined =
-      let e : a ≡ down (items P) u = omega (arith, B .n-is) in
-      let e′ : b ≡ up (items P) d = omega (arith, B .n-is) in
-      rw (g, f, e, e′)
+  module _ {x′ u′ d′ : ℕ} (S : Stands n t q x′ u′ d′) where
+    x-is : x′ ≡ suc i
+    x-is = read t (omega (arith, B .n-is)) (B .top-is) (S .top-is)
 
-  count-inside : m < length t₂
-  unfolding nodes
-  count-inside = omega (arith, m-is, ap length joined, join-length t (down (items P) u) (up (items P) d) (pos y) (pos z), B .size, B .item)
+    u-is : u′ ≡ u
+    u-is = read t (omega (arith, B .n-is)) (B .up-is) (S .up-is)
 
-  count-kept : {k : ℕ} → word t (top (items P) (suc i)) ≡ pos k → word t₂ m ≡ pos k
-  count-kept w =
-      ap (word t₂) m-is ∙ ap (λ (l : List ℤ). word l (top (items P) (suc i))) joined
-      ∙ join-else t (down (items P) u) (up (items P) d) (pos y) (pos z) (top (items P) (suc i)) (omega arith) (omega arith) ∙ w
+    d-is : d′ ≡ d
+    d-is = read t (omega (arith, B .n-is)) (B .down-is) (S .down-is)
 
-  pub can-lower : {k : ℕ} → word t (top (items P) (suc i)) ≡ pos (suc k) → (m < length t₂) × Above t₂ m
-  can-lower {k} w = (count-inside, (k, count-kept w))
+    pub down-inside : down n u′ < length t
+    down-inside = omega (arith, u-is, B .n-is, B .up-in, B .size)
 
-  pub can-raise : {k : ℕ} → word t (top (items P) (suc i)) ≡ pos k → k < 2147483647 → (m < length t₂) × CanRise t₂ m
-  can-raise {k} w h =
-      let e = count-kept w in
-      let l : link t₂ m ≡ k = ap nat e in
-      (count-inside, (rw e tt, omega arith))
+    pub up-inside : up n d′ < length t
+    up-inside = omega (arith, d-is, B .n-is, B .down-in, B .size)
 
-  module _ {t₃ : List ℤ} where
-    pub unlink-done : y ≡ d → z ≡ u → t₃ ≡ fall t₂ m → t₃ ≡ apply n t (unlink q)
-    unfolding apply
-    unlink-done ey ez e = rw (e, joined, m-is, ey, ez, B .n-is, ap nat (B .up-is), ap nat (B .down-is), ap nat (B .top-is))
+    module _ (y z : ℕ) {t₁ t₂ : List ℤ} (f : t₁ ≡ set t (down n u′) (pos y)) (g : t₂ ≡ set t₁ (up n d′) (pos z)) where
+      joined : t₂ ≡ join t (down (items P) u) (pos y) (up (items P) d) (pos z)
+      joined = rw (g, f, u-is, d-is, B .n-is)
 
-    pub relink-done : y ≡ q → z ≡ q → t₃ ≡ rise t₂ m → t₃ ≡ undo n t (unlink q)
-    unfolding undo relink
-    relink-done ey ez e = rw (e, joined, m-is, ey, ez, B .n-is, ap nat (B .up-is), ap nat (B .down-is), ap nat (B .top-is))
+      count-inside : top n x′ < length t₂
+      unfolding nodes
+      count-inside = omega (arith, x-is, ap length joined, join-length t (down (items P) u) (up (items P) d) (pos y) (pos z), B .n-is, B .size, B .item)
+
+      count-kept : {k : ℕ} → word t (top (items P) (suc i)) ≡ pos k → word t₂ (top n x′) ≡ pos k
+      count-kept w =
+          word-at t₂ (omega (arith, x-is, B .n-is))
+          (ap (λ (l : List ℤ). word l (top (items P) (suc i))) joined
+          ∙ join-else t (down (items P) u) (up (items P) d) (pos y) (pos z) (top (items P) (suc i)) (omega arith) (omega arith) ∙ w)
+
+      pub can-lower : {k : ℕ} → word t (top (items P) (suc i)) ≡ pos (suc k) → (top n x′ < length t₂) × Above t₂ (top n x′)
+      can-lower {k} w = (count-inside, (k, count-kept w))
+
+      pub can-raise : {k : ℕ} → word t (top (items P) (suc i)) ≡ pos k → k < 2147483647 → (top n x′ < length t₂) × CanRise t₂ (top n x′)
+      can-raise {k} w h =
+          let e = count-kept w in
+          let l : link t₂ (top n x′) ≡ k = ap nat e in
+          (count-inside, (rw e tt, omega arith))
+
+    module _ {t₁ t₂ t₃ : List ℤ} where
+      pub unlink-done : t₁ ≡ set t (down n u′) (pos d′) → t₂ ≡ set t₁ (up n d′) (pos u′) → t₃ ≡ fall t₂ (top n x′) → t₃ ≡ apply n t (unlink q)
+      unfolding apply
+      unlink-done f g e = rw (e, g, f, S .top-is .is, S .up-is .is, S .down-is .is)
+
+      pub relink-done : t₁ ≡ set t (down n u′) (pos q) → t₂ ≡ set t₁ (up n d′) (pos q) → t₃ ≡ rise t₂ (top n x′) → t₃ ≡ undo n t (unlink q)
+      unfolding undo relink
+      relink-done f g e = rw (e, g, f, S .top-is .is, S .up-is .is, S .down-is .is)
+
+pub node-small : {P : Problem} {n : ℕ} {t : List ℤ} {i q u d : ℕ} → CanRelink P n t i q u d → q < 2147483648
+node-small R = omega (arith, R .between .inside, R .small)
 
 -- ---- an item's neighbours are joined, to each other or to the item
 
-pub item-small : {P : Problem} {t : List ℤ} {j i l r : ℕ} → Ringed P t j i l r → i < 2147483648
-unfolding nodes
-item-small R = omega (arith, R .is, R .item, R .small)
+module _ {P : Problem} {t : List ℤ} {j i l r : ℕ} (R : Ringed P t j i l r) where
+  pub item-small : i < 2147483648
+  unfolding nodes
+  item-small = omega (arith, R .is, R .item, R .small)
 
-module _ {P : Problem} {t : List ℤ} {j i l r : ℕ} (R : Ringed P t j i l r) {l′ r′ a b : ℕ} (el : l′ ≡ l) (er : r′ ≡ r) (ea : a ≡ right l′) (eb : b ≡ left r′)
-    (y z : ℕ) {t₁ t₂ : List ℤ} (f : t₁ ≡ set t a (pos y)) (g : t₂ ≡ set t₁ b (pos z)) where
-  item-joined : t₂ ≡ join t (right l) (pos y) (left r) (pos z)
-  item-joined =
-      let e : a ≡ right l = omega arith in
-      let e′ : b ≡ left r = omega arith in
-      rw (g, f, e, e′)
+  pub has-left : HasLink t (left i)
+  has-left = has-link t (omega (arith, R .is)) (R .left-is) (omega (arith, R .item, R .size))
 
-  -- whatever the caller calls the item
-  module _ (n : ℕ) {k : ℕ} (ek : i ≡ suc k) where
-    same : k ≡ j
-    same = omega (arith, R .is)
+  pub has-right : HasLink t (right i)
+  has-right = has-link t (omega (arith, R .is)) (R .right-is) (omega (arith, R .item, R .size))
 
-    pub remove-done : y ≡ r → z ≡ l → t₂ ≡ apply n t (remove k)
-    unfolding apply
-    remove-done ey ez = rw (item-joined, ey, ez, same, ap nat (R .left-is), ap nat (R .right-is))
+  module _ {l′ r′ : ℕ} (L : Link t (left i) l′) (Q : Link t (right i) r′) where
+    pub right-inside : right l′ < length t
+    right-inside = omega (arith, read t (omega (arith, R .is)) (R .left-is) L, R .left-in, R .size)
 
-    pub restore-done : y ≡ i → z ≡ i → t₂ ≡ undo n t (remove k)
-    unfolding undo
-    restore-done ey ez = rw (item-joined, ey, ez, same, ap nat (R .left-is), ap nat (R .right-is), R .is)
+    pub left-inside : left r′ < length t
+    left-inside = omega (arith, read t (omega (arith, R .is)) (R .right-is) Q, R .right-in, R .size)
+
+    -- whatever the caller calls the item
+    module _ (n k : ℕ) (e : i ≡ suc k) {t₁ t₂ : List ℤ} where
+      pub remove-done : t₁ ≡ set t (right l′) (pos r′) → t₂ ≡ set t₁ (left r′) (pos l′) → t₂ ≡ apply n t (remove k)
+      unfolding apply
+      remove-done f g = rw (g, f, L .is, Q .is, e)
+
+      pub restore-done : t₁ ≡ set t (right l′) (pos i) → t₂ ≡ set t₁ (left r′) (pos i) → t₂ ≡ undo n t (remove k)
+      unfolding undo
+      restore-done f g = rw (g, f, L .is, Q .is, e)
+
+-- ---- a node's entry is read
+
+module _ {P : Problem} {n : ℕ} {t : List ℤ} {e : Entry} {p : ℕ} (n-is : n ≡ items P) (Y : Says P t e p) where
+  pub has-entry : length t ≡ 2 * (items P + 2) + 4 * nodes P → HasLink t (colour-at n p) × HasLink t (top n p)
+  has-entry z = (has-link t (omega arith) (Y .colour-is) (omega (arith, Y .inside)), has-link t (omega arith) (Y .top-is) (omega (arith, Y .inside)))
+
+  pub read-colour : {c : ℕ} → Link t (colour-at n p) c → c ≡ e .colour
+  read-colour = read t (omega arith) (Y .colour-is)
+
+  pub read-header : {i : ℕ} → Link t (top n p) i → i ≡ suc (e .item)
+  read-header = read t (omega arith) (Y .top-is)
 
 -- ---- the caller's number of items
 

@@ -10,6 +10,7 @@ use Rattle.rules.specs.Words.{word}
 use Rattle.rules.specs.Problem.{Entry, Problem, items}
 use Rattle.rules.specs.Order.{has-item, one-colour, Placed, placed, Choice, node}
 use Rattle.rules.specs.Links.{Event, unlink, Node, nodes-from, own, hide, met, touch, commit-node, left, right, top, up, down, colour-at, run-events}
+use Rattle.words.specs.Read.{Natural, Link}
 use Rattle.laws.specs.Faults.{Good}
 use Rattle.tables.specs.Nodes.{nodes}
 use Rattle.tables.specs.Views.{View, Fits, Table, shade}
@@ -17,9 +18,19 @@ use Rattle.tables.specs.Shows.{view}
 use Rattle.tables.specs.Met.{Whole}
 use Rattle.links.specs.Moves.{Shown}
 
+-- the word at a is a number
+abbrev pub HasLink : List ℤ → ℕ → Type 0
+HasLink t a = (a < length t) × Natural t a
+
 -- ---- one node
 
--- node q of item i, numbered from 0, says that it stands between u and d
+-- node q says that it stands in the list of the header x, between u and d
+pub record Stands (n : ℕ) (t : List ℤ) (q x u d : ℕ) : Type 0 where
+  pub top-is : Link t (top n q) x
+  pub up-is : Link t (up n q) u
+  pub down-is : Link t (down n q) d
+
+-- that item is i, numbered from 0, and all three stand in the table
 pub record Between (P : Problem) (n : ℕ) (t : List ℤ) (i q u d : ℕ) : Type 0 where
   pub n-is : n ≡ items P
   pub size : length t ≡ 2 * (items P + 2) + 4 * nodes P

@@ -2,17 +2,20 @@
 ghost use mathlib.Core.Path.{_≡_};
 ghost use mathlib.Core.List.{List};
 ghost use Prim.Native.Nat.{ℕ, suc, _<_, _≤_};
-ghost use lib.IntN.{ℤ};
-ghost use lib.ListN.{length};
+ghost use lib.IntN.{ℤ, pos};
+ghost use lib.ListN.{length, set};
+ghost use lib.Signed.{ltZ};
+ghost use Rattle.rules.specs.Words.{word};
 ghost use Rattle.rules.specs.Problem.{Entry, Problem, items};
 ghost use Rattle.rules.specs.Order.{Choice, has-item, one-colour};
-ghost use Rattle.rules.specs.Links.{Node, first-or, own, met, touch, commit-node, try, unlink, apply};
+ghost use Rattle.rules.specs.Links.{Node, first-or, own, met, touch, commit-node, try, unlink, fall, apply};
 ghost use Rattle.rules.specs.Links as Links;
+ghost use Rattle.words.specs.Read.{Link, Above, CanRise};
 ghost use Rattle.tables.specs.Shows.{view};
-ghost use Rattle.tables.specs.Undo.{undo};
+ghost use Rattle.tables.specs.Undo.{undo, rise};
 ghost use Rattle.tables.specs.Views.{View};
 ghost use Rattle.links.specs.Moves.{InList, SomeList, IsHeader, SomeHeader, IsNode, SomeNode, Done, CanCommit, SomeCommit, Committed, SomeCommitted};
-ghost use Rattle.links.specs.Steps.{SomeUnlink, SomeRelink, OneNode, SomeOne, unless, OneHidden, SomeOneHidden, CanHide, SomeHide, Hidden, SomeHidden};
+ghost use Rattle.links.specs.Steps.{HasLink, Stands, SomeUnlink, SomeRelink, OneNode, SomeOne, unless, OneHidden, SomeOneHidden, CanHide, SomeHide, Hidden, SomeHidden};
 ghost use Rattle.links.specs.Steps.{Meeting, SomeMeeting, Parting, SomeParting, CanPurify, SomePurify, Purified, SomePurified, CanCommitNode, SomeCommitNode, CommittedNode, SomeCommittedNode};
 use crate::x::cover;
 use crate::x::uncover;
@@ -29,26 +32,104 @@ use words::raise_at;
 
 // ---- `ONodes`
 
-// Where the words of node q stand.
-pub(crate) fn top_at(n: usize, q: usize) -> usize
+// The words of node q. The contracts name the places, which the code writes out.
+
+// The header of its item; of a header, the length of its list.
+pub(crate) fn top_of(t: &[i32], n: usize, q: usize) -> usize
+    requires { ⌜ HasLink (now t) (Links.top n q) ⌝ }
+    ensures { λ r. ⌜ Link (now (t .entry)) (Links.top n q) r ⌝ }
+{
+    link_at(t, 2 * (n + 2) + 4 * q)
+}
+
+// Whether it is a node of an option, and no spacer.
+fn is_node(t: &[i32], n: usize, q: usize) -> bool
+    requires { ⌜ Links.top n q < length (now t) ⌝ }
+    ensures { λ r. ⌜ r ≡ ltZ (pos 0) (word (now (t .entry)) (Links.top n q)) ⌝ }
+{
+    is_positive(t, 2 * (n + 2) + 4 * q)
+}
+
+// The list of a header is shorter, or longer, by one.
+fn lower_len(t: &mut [i32], n: usize, i: usize)
+    requires { ⌜ Links.top n i < length (now t) ⌝ }
+    requires { ⌜ Above (now t) (Links.top n i) ⌝ }
+    ensures { λ _. ⌜ now (t .exit) ≡ fall (now (t .entry)) (Links.top n i) ⌝ }
+{
+    lower_at(t, 2 * (n + 2) + 4 * i);
+}
+
+fn raise_len(t: &mut [i32], n: usize, i: usize)
+    requires { ⌜ Links.top n i < length (now t) ⌝ }
+    requires { ⌜ CanRise (now t) (Links.top n i) ⌝ }
+    ensures { λ _. ⌜ now (t .exit) ≡ rise (now (t .entry)) (Links.top n i) ⌝ }
+{
+    raise_at(t, 2 * (n + 2) + 4 * i);
+}
+
+// Its neighbours in its list.
+pub(crate) fn up_of(t: &[i32], n: usize, q: usize) -> usize
+    requires { ⌜ HasLink (now t) (Links.up n q) ⌝ }
+    ensures { λ r. ⌜ Link (now (t .entry)) (Links.up n q) r ⌝ }
+{
+    link_at(t, 2 * (n + 2) + 4 * q + 1)
+}
+
+fn set_up(t: &mut [i32], n: usize, q: usize, x: usize)
+    requires { ⌜ Links.up n q < length (now t) ⌝ }
+    requires { ⌜ x < 2147483648 ⌝ }
+    ensures { λ _. ⌜ now (t .exit) ≡ set (now (t .entry)) (Links.up n q) (pos x) ⌝ }
+{
+    put_link(t, 2 * (n + 2) + 4 * q + 1, x);
+}
+
+pub(crate) fn down_of(t: &[i32], n: usize, q: usize) -> usize
+    requires { ⌜ HasLink (now t) (Links.down n q) ⌝ }
+    ensures { λ r. ⌜ Link (now (t .entry)) (Links.down n q) r ⌝ }
+{
+    link_at(t, 2 * (n + 2) + 4 * q + 2)
+}
+
+fn set_down(t: &mut [i32], n: usize, q: usize, x: usize)
+    requires { ⌜ Links.down n q < length (now t) ⌝ }
+    requires { ⌜ x < 2147483648 ⌝ }
+    ensures { λ _. ⌜ now (t .exit) ≡ set (now (t .entry)) (Links.down n q) (pos x) ⌝ }
+{
+    put_link(t, 2 * (n + 2) + 4 * q + 2, x);
+}
+
+// Its colour.
+fn colour_of(t: &[i32], n: usize, q: usize) -> usize
+    requires { ⌜ HasLink (now t) (Links.colour-at n q) ⌝ }
+    ensures { λ r. ⌜ Link (now (t .entry)) (Links.colour-at n q) r ⌝ }
+{
+    link_at(t, 2 * (n + 2) + 4 * q + 3)
+}
+
+// Where it stands: the header x of its item, and its neighbours u and d in its list.
+struct Stand {
+    x: usize,
+    u: usize,
+    d: usize,
+}
+
+fn stand_of(t: &[i32], n: usize, q: usize) -> Stand
+    requires { ⌜ HasLink (now t) (Links.top n q) × HasLink (now t) (Links.up n q) × HasLink (now t) (Links.down n q) ⌝ }
+    ensures { λ r. ⌜ Stands n (now (t .entry)) q (r .x) (r .u) (r .d) ⌝ }
+{
+    Stand {
+        x: top_of(t, n, q),
+        u: up_of(t, n, q),
+        d: down_of(t, n, q),
+    }
+}
+
+// Where two of them stand.
+fn top_at(n: usize, q: usize) -> usize
     requires { ⌜ Links.top n q < 9223372036854775808 ⌝ }
     ensures { λ r. ⌜ r ≡ Links.top n q ⌝ }
 {
     2 * (n + 2) + 4 * q
-}
-
-pub(crate) fn up_at(n: usize, q: usize) -> usize
-    requires { ⌜ Links.up n q < 9223372036854775808 ⌝ }
-    ensures { λ r. ⌜ r ≡ Links.up n q ⌝ }
-{
-    2 * (n + 2) + 4 * q + 1
-}
-
-pub(crate) fn down_at(n: usize, q: usize) -> usize
-    requires { ⌜ Links.down n q < 9223372036854775808 ⌝ }
-    ensures { λ r. ⌜ r ≡ Links.down n q ⌝ }
-{
-    2 * (n + 2) + 4 * q + 2
 }
 
 fn colour_at(n: usize, q: usize) -> usize
@@ -63,7 +144,7 @@ pub fn len(t: &[i32], n: usize, i: usize) -> usize
     requires { ⌜ SomeHeader n (now t) i ⌝ }
     ensures { λ r. ⌜ ((P : Problem) (held : List Entry) (j : ℕ) → IsHeader P held n (now (t .entry)) j i → r ≡ length (view P held .list j)) ⌝ }
 {
-    link_at(t, top_at(n, i))
+    top_of(t, n, i)
 }
 
 // The node after q in its list: the first where q is the header, the header where q is the last.
@@ -72,7 +153,7 @@ pub fn dlink(t: &[i32], n: usize, q: usize) -> usize
     ensures { λ r. ⌜ ((P : Problem) (held : List Entry) (i : ℕ) (xs ys : List ℕ) → InList P held n (now (t .entry)) i xs q ys → r ≡ first-or (suc i) ys) ⌝ }
     ensures { λ r. ⌜ r < 2147483648 ⌝ }
 {
-    link_at(t, down_at(n, q))
+    down_of(t, n, q)
 }
 
 // The header of the item of node x.
@@ -80,7 +161,7 @@ pub fn top(t: &[i32], n: usize, x: usize) -> usize
     requires { ⌜ SomeNode n (now t) x ⌝ }
     ensures { λ r. ⌜ ((P : Problem) (held : List Entry) (c : Choice) → IsNode P held n (now (t .entry)) c x → r ≡ suc (own c .item)) ⌝ }
 {
-    link_at(t, top_at(n, x))
+    top_of(t, n, x)
 }
 
 // The number of the option of node x: from the spacer after it.
@@ -103,12 +184,10 @@ fn unlink_node(t: &mut [i32], n: usize, q: usize)
     requires { ⌜ SomeUnlink n (now t) q ⌝ }
     ensures { λ _. ⌜ now (t .exit) ≡ apply n (now (t .entry)) (unlink q) ⌝ }
 {
-    let x = link_at(t, top_at(n, q));
-    let u = link_at(t, up_at(n, q));
-    let d = link_at(t, down_at(n, q));
-    put_link(t, down_at(n, u), d);
-    put_link(t, up_at(n, d), u);
-    lower_at(t, top_at(n, x));
+    let s = stand_of(t, n, q);
+    set_down(t, n, s.u, s.d);
+    set_up(t, n, s.d, s.u);
+    lower_len(t, n, s.x);
 }
 
 // Node q comes back to its list, whose length rises by one: its own links still say where it stood.
@@ -116,12 +195,10 @@ fn relink_node(t: &mut [i32], n: usize, q: usize)
     requires { ⌜ SomeRelink n (now t) q ⌝ }
     ensures { λ _. ⌜ now (t .exit) ≡ undo n (now (t .entry)) (unlink q) ⌝ }
 {
-    let x = link_at(t, top_at(n, q));
-    let u = link_at(t, up_at(n, q));
-    let d = link_at(t, down_at(n, q));
-    put_link(t, down_at(n, u), q);
-    put_link(t, up_at(n, d), q);
-    raise_at(t, top_at(n, x));
+    let s = stand_of(t, n, q);
+    set_down(t, n, s.u, q);
+    set_up(t, n, s.d, q);
+    raise_len(t, n, s.x);
 }
 
 // Node q leaves its list, unless it is marked. The result is the number of updates.
@@ -155,11 +232,11 @@ pub(crate) fn hide(t: &mut [i32], n: usize, p: usize) -> u64
     let mut updates: u64 = 0;
     let mut q = p + 1;
     while q != p {
-        if is_positive(t, top_at(n, q)) {
+        if is_node(t, n, q) {
             updates += hide_node(t, n, q);
             q += 1;
         } else {
-            q = link_at(t, up_at(n, q));
+            q = up_of(t, n, q);
         }
     }
     updates
@@ -172,11 +249,11 @@ pub(crate) fn unhide(t: &mut [i32], n: usize, p: usize)
 {
     let mut q = p - 1;
     while q != p {
-        if is_positive(t, top_at(n, q)) {
+        if is_node(t, n, q) {
             unhide_node(t, n, q);
             q -= 1;
         } else {
-            q = link_at(t, down_at(n, q));
+            q = down_of(t, n, q);
         }
     }
 }
@@ -214,14 +291,14 @@ fn purify(t: &mut [i32], n: usize, p: usize) -> u64
     requires { ⌜ SomePurify n (now t) p ⌝ }
     ensures { λ r. ⌜ ((P : Problem) (held : List Entry) (e : Entry) → CanPurify P held n (now (t .entry)) e p → Done (items P) (now (t .entry)) (touch P held e) (now (t .exit)) r) ⌝ }
 {
-    let c = link_at(t, colour_at(n, p));
-    let i = link_at(t, top_at(n, p));
-    let mut left = link_at(t, top_at(n, i));
+    let c = colour_of(t, n, p);
+    let i = top_of(t, n, p);
+    let mut left = top_of(t, n, i);
     let mut updates: u64 = 0;
-    let mut q = link_at(t, down_at(n, i));
+    let mut q = down_of(t, n, i);
     while q != i {
         updates += purify_node(t, n, q, c);
-        q = link_at(t, down_at(n, q));
+        q = down_of(t, n, q);
         left -= 1;
     }
     updates
@@ -232,13 +309,13 @@ fn unpurify(t: &mut [i32], n: usize, p: usize)
     requires { ⌜ SomePurified n (now t) p ⌝ }
     ensures { λ _. ⌜ ((P : Problem) (held : List Entry) (t₁ : List ℤ) (e : Entry) → Purified P held n t₁ (now (t .entry)) e p → now (t .exit) ≡ t₁) ⌝ }
 {
-    let c = link_at(t, colour_at(n, p));
-    let i = link_at(t, top_at(n, p));
-    let mut left = link_at(t, top_at(n, i));
-    let mut q = link_at(t, up_at(n, i));
+    let c = colour_of(t, n, p);
+    let i = top_of(t, n, p);
+    let mut left = top_of(t, n, i);
+    let mut q = up_of(t, n, i);
     while q != i {
         unpurify_node(t, n, q, c);
-        q = link_at(t, up_at(n, q));
+        q = up_of(t, n, q);
         left -= 1;
     }
 }
@@ -282,12 +359,12 @@ pub fn commit_all(t: &mut [i32], n: usize, x: usize) -> u64
     let mut updates: u64 = 0;
     let mut p = x + 1;
     while p != x {
-        if is_positive(t, top_at(n, p)) {
-            let j = link_at(t, top_at(n, p));
+        if is_node(t, n, p) {
+            let j = top_of(t, n, p);
             updates += commit(t, n, p, j);
             p += 1;
         } else {
-            p = link_at(t, up_at(n, p));
+            p = up_of(t, n, p);
         }
     }
     updates
@@ -300,12 +377,12 @@ pub fn uncommit_all(t: &mut [i32], n: usize, x: usize)
 {
     let mut p = x - 1;
     while p != x {
-        if is_positive(t, top_at(n, p)) {
-            let j = link_at(t, top_at(n, p));
+        if is_node(t, n, p) {
+            let j = top_of(t, n, p);
             uncommit(t, n, p, j);
             p -= 1;
         } else {
-            p = link_at(t, down_at(n, p));
+            p = down_of(t, n, p);
         }
     }
 }

@@ -2,35 +2,53 @@
 ghost use mathlib.Core.Path.{_≡_};
 ghost use mathlib.Core.List.{List};
 ghost use Prim.Native.Nat.{ℕ, suc, _<_};
-ghost use lib.IntN.{ℤ};
+ghost use lib.IntN.{ℤ, pos};
+ghost use lib.ListN.{length, set};
 ghost use Rattle.rules.specs.Problem.{Entry, Problem};
 ghost use Rattle.rules.specs.Links.{first-or, touch, left, right, remove, apply};
+ghost use Rattle.words.specs.Read.{Link};
 ghost use Rattle.tables.specs.Undo.{undo};
 ghost use Rattle.links.specs.Moves.{InRing, SomeRing, Done, bare, CanCover, SomeCover, Covered, SomeCovered};
-ghost use Rattle.links.specs.Steps.{SomeRinged};
-use crate::c::down_at;
+ghost use Rattle.links.specs.Steps.{HasLink, SomeRinged};
+use crate::c::down_of;
 use crate::c::hide;
-use crate::c::top_at;
+use crate::c::top_of;
 use crate::c::unhide;
-use crate::c::up_at;
+use crate::c::up_of;
 use words::link_at;
 use words::put_link;
 
 // ---- `INodes`
 
-// Where the words of item i stand.
-fn left_at(i: usize) -> usize
-    requires { ⌜ left i < 9223372036854775808 ⌝ }
-    ensures { λ r. ⌜ r ≡ left i ⌝ }
+// What item i says: its neighbours in its ring.
+fn left_of(t: &[i32], i: usize) -> usize
+    requires { ⌜ HasLink (now t) (left i) ⌝ }
+    ensures { λ r. ⌜ Link (now (t .entry)) (left i) r ⌝ }
 {
-    2 * i
+    link_at(t, 2 * i)
 }
 
-fn right_at(i: usize) -> usize
-    requires { ⌜ right i < 9223372036854775808 ⌝ }
-    ensures { λ r. ⌜ r ≡ right i ⌝ }
+fn right_of(t: &[i32], i: usize) -> usize
+    requires { ⌜ HasLink (now t) (right i) ⌝ }
+    ensures { λ r. ⌜ Link (now (t .entry)) (right i) r ⌝ }
 {
-    2 * i + 1
+    link_at(t, 2 * i + 1)
+}
+
+fn set_left(t: &mut [i32], i: usize, x: usize)
+    requires { ⌜ left i < length (now t) ⌝ }
+    requires { ⌜ x < 2147483648 ⌝ }
+    ensures { λ _. ⌜ now (t .exit) ≡ set (now (t .entry)) (left i) (pos x) ⌝ }
+{
+    put_link(t, 2 * i, x);
+}
+
+fn set_right(t: &mut [i32], i: usize, x: usize)
+    requires { ⌜ right i < length (now t) ⌝ }
+    requires { ⌜ x < 2147483648 ⌝ }
+    ensures { λ _. ⌜ now (t .exit) ≡ set (now (t .entry)) (right i) (pos x) ⌝ }
+{
+    put_link(t, 2 * i + 1, x);
 }
 
 // The item after p in the primary ring, 0 for the head.
@@ -38,7 +56,7 @@ pub fn rlink(t: &[i32], p: usize) -> usize
     requires { ⌜ SomeRing (now t) p ⌝ }
     ensures { λ r. ⌜ ((P : Problem) (held : List Entry) (xs ys : List ℕ) → InRing P held (now (t .entry)) xs p ys → r ≡ first-or 0 ys) ⌝ }
 {
-    link_at(t, right_at(p))
+    right_of(t, p)
 }
 
 // ---- covering
@@ -48,10 +66,10 @@ fn unlink_item(t: &mut [i32], i: usize)
     requires { ⌜ SomeRinged (now t) i ⌝ }
     ensures { λ _. ⌜ ((n j : ℕ) → i ≡ suc j → now (t .exit) ≡ apply n (now (t .entry)) (remove j)) ⌝ }
 {
-    let l = link_at(t, left_at(i));
-    let r = link_at(t, right_at(i));
-    put_link(t, right_at(l), r);
-    put_link(t, left_at(r), l);
+    let l = left_of(t, i);
+    let r = right_of(t, i);
+    set_right(t, l, r);
+    set_left(t, r, l);
 }
 
 // The item whose header is i comes back to its ring: its own links still say where it stood.
@@ -59,10 +77,10 @@ fn relink_item(t: &mut [i32], i: usize)
     requires { ⌜ SomeRinged (now t) i ⌝ }
     ensures { λ _. ⌜ ((n j : ℕ) → i ≡ suc j → now (t .exit) ≡ undo n (now (t .entry)) (remove j)) ⌝ }
 {
-    let l = link_at(t, left_at(i));
-    let r = link_at(t, right_at(i));
-    put_link(t, right_at(l), i);
-    put_link(t, left_at(r), i);
+    let l = left_of(t, i);
+    let r = right_of(t, i);
+    set_right(t, l, i);
+    set_left(t, r, i);
 }
 
 // Covers the item whose header is i. The result is the number of updates. `left` counts the nodes that are still to be met, for the proof
@@ -71,12 +89,12 @@ pub fn cover(t: &mut [i32], n: usize, i: usize) -> u64
     requires { ⌜ SomeCover n (now t) i ⌝ }
     ensures { λ r. ⌜ ((P : Problem) (held : List Entry) (j : ℕ) → CanCover P held n (now (t .entry)) j i → Done n (now (t .entry)) (touch P held (bare j)) (now (t .exit)) r) ⌝ }
 {
-    let mut left = link_at(t, top_at(n, i));
+    let mut left = top_of(t, n, i);
     let mut updates: u64 = 0;
-    let mut p = link_at(t, down_at(n, i));
+    let mut p = down_of(t, n, i);
     while p != i {
         updates += hide(t, n, p);
-        p = link_at(t, down_at(n, p));
+        p = down_of(t, n, p);
         left -= 1;
     }
     unlink_item(t, i);
@@ -89,11 +107,11 @@ pub fn uncover(t: &mut [i32], n: usize, i: usize)
     ensures { λ _. ⌜ ((P : Problem) (held : List Entry) (t₁ : List ℤ) (j : ℕ) → Covered P held n t₁ (now (t .entry)) j i → now (t .exit) ≡ t₁) ⌝ }
 {
     relink_item(t, i);
-    let mut left = link_at(t, top_at(n, i));
-    let mut p = link_at(t, up_at(n, i));
+    let mut left = top_of(t, n, i);
+    let mut p = up_of(t, n, i);
     while p != i {
         unhide(t, n, p);
-        p = link_at(t, up_at(n, p));
+        p = up_of(t, n, p);
         left -= 1;
     }
 }

@@ -1,6 +1,6 @@
 -- `links::c::hide_node` meets its contract: the node's colour tells whether it is marked. Assumes nothing.
 use mathlib.Core.Path.{_≡_, sym, _∙_}
-use mathlib.Core.Bool.{Bool, true, false, not}
+use mathlib.Core.Bool.{Bool, false, not}
 use native.Mathlib.Omega.{arith}
 use lib.Signed.{nonNeg}
 use Rattle.rules.specs.Problem.{Problem}

@@ -1,21 +1,15 @@
 -- `links::c::uncommit_all` meets its contract. The loop's invariant: the nodes still to be met are those that are committed, and the walk is at the last of
 -- them or at the spacer after it. The measure is what is left of the way round the option. Assumes nothing.
 use mathlib.Core.Path.{_≡_, sym, _∙_}
-use mathlib.Core.Bool.{true, false}
-use mathlib.Core.List.{List, _∷_}
-use Prim.Native.Nat.{ℕ}
+use mathlib.Core.List.{List}
 use native.Mathlib.Omega.{arith}
-use lib.IntN.{ℤ, pos}
-use lib.Signed.{ltZ}
+use lib.IntN.{ℤ}
 use lib.ListN.{length}
 use Rattle.rules.specs.Problem.{Entry, Problem}
 use Rattle.rules.specs.Order.{Choice}
-use Rattle.rules.specs.Links.{top, committed, own}
 use Rattle.links.specs.Moves.{Committed}
-use Rattle.links.specs.Steps.{CommittedNode}
-use Rattle.links.proofs.Words.{natural, read, tells}
-use Rattle.links.proofs.Round.{positive, way-left, left-less, left-turns}
-use Rattle.links.proofs.Lap.{Left, left-some, left-start, left-size, left-inside, left-node, left-top, before, left-more, left-next, left-last, left-turn, left-across, left-end}
+use Rattle.links.proofs.Round.{way-left}
+use Rattle.links.proofs.Lap.{Left, left-some, left-start, left-long, left-test, left-has, left-more, left-near, left-next, left-turns, left-turn, left-turn-near, left-end}
 use Rattle.links.proofs.Committing.{commit-lap, uncommit-words, uncommit-at}
 use Rattle.links.proofs.c.uncommit_all.Statement.{statement}
 use Rattle.links.proofs.c.uncommit_all.Tie as tie
@@ -26,45 +20,13 @@ Inv-loop t₀ n x p₀ t p = (P : Problem) (held : List Entry) (t₁ : List ℤ)
 abbrev μ-loop : tie.MeasureT-loop
 μ-loop t₀ n x p₀ t p = way-left (length t₀) x p
 
--- what a caller may know
-abbrev Known : tie.Start Inv-loop μ-loop → Problem → List Entry → List ℤ → Choice → Type 0
-Known s P held t₁ c = Committed P held (s .args .n) t₁ (s .args .t .now) c (s .args .x)
-
 -- the walk so far
 abbrev walk : (d : tie.At-loop Inv-loop μ-loop) → Left (commit-lap (d .before .pre .4 .can)) (d .loop .t) (d .loop .p)
 walk d = d .loop .inv _ _ _ _ (d .before .pre .4)
 
 -- the table has the length that it had
 long : (d : tie.At-loop Inv-loop μ-loop) → length (d .loop .t) ≡ length (d .before .args .t .now)
-long d = let Q = d .before .pre .4 in left-size (walk d) ∙ sym (left-size (left-start (commit-lap (Q .can)) (uncommit-words Q)))
-
-at-node : (d : tie.Then1 Inv-loop μ-loop) {m : ℕ} → d .before .before .before .before .before .before .args .n ≡ m → positive (d .before .before .before .before .before .loop .t)
-    (top m (d .before .before .before .before .before .loop .p)) ≡ true
-at-node d e =
-    let v = d .before .before .before .before .before in
-    tells (ltZ (pos 0)) (v .loop .t) (omega (arith, d .before .before .top-at .ensures, e)) (d .before .is-positive .ensures) (d .if1 .taken)
-
-at-spacer : (d : tie.Else1 Inv-loop μ-loop) {m : ℕ} → d .before .before .before .before .before .before .args .n ≡ m → positive (d .before .before .before .before .before .loop .t)
-    (top m (d .before .before .before .before .before .loop .p)) ≡ false
-at-spacer d e =
-    let v = d .before .before .before .before .before in
-    tells (ltZ (pos 0)) (v .loop .t) (omega (arith, d .before .before .top-at .ensures, e)) (d .before .is-positive .ensures) (d .if1 .left)
-
--- the node that is uncommitted
-here : (d : tie.After-link-at Inv-loop μ-loop) {P : Problem} {held : List Entry} {t₁ : List ℤ} {c : Choice}
-    (Q : Known (d .before .before .before .before .before .before .before .before .before) P held t₁ c)
-    → let f = left-node (d .before .before .before .before .before .before .before .before .loop .inv P held t₁ c Q)
-    (d .before .before .before .before .before .before .before .loop-test .taken) (at-node (d .before .before .before) (Q .can .n-is)) in
-    CommittedNode P (committed (own c ∷ held) (f .0)) (d .before .before .before .before .before .before .before .before .before .args .n)
-    (before (d .before .before .before .before .before .before .before .before .loop .inv P held t₁ c Q) (d .before .before .before .before .before .before .before .loop-test .taken)
-    (at-node (d .before .before .before) (Q .can .n-is))) (d .before .before .before .before .before .before .before .before .loop .t) (f .1)
-    (d .before .before .before .before .before .before .before .before .loop .p) (d .link-at .result)
-here d {P} {held} {t₁} {c} Q =
-    let turn = d .before .before .before .before .before .before .before in
-    let v = turn .before in
-    let K = v .loop .inv P held t₁ c Q in
-    let b = at-node (d .before .before .before) (Q .can .n-is) in
-    uncommit-at Q K (turn .loop-test .taken) b (read (v .loop .t) (omega (arith, d .before .top-at2 .ensures, Q .can .n-is)) (left-top K (turn .loop-test .taken) b) (d .link-at .ensures))
+long d = left-long (walk d) (uncommit-words (d .before .pre .4))
 
 sub-p : tie.Need-sub-p Inv-loop μ-loop
 sub-p c = omega (arith, left-some (commit-lap (c .pre .4 .can)))
@@ -72,96 +34,66 @@ sub-p c = omega (arith, left-some (commit-lap (c .pre .4 .can)))
 loop-holds : tie.Need-loop-holds Inv-loop μ-loop
 loop-holds c = λ P held t₁ c′ Q. left-start (commit-lap (Q .can)) (uncommit-words Q)
 
-top-at-requires : tie.Need-top-at-requires Inv-loop μ-loop
-top-at-requires c κs =
-    let s = c .before .before .before in
-    let Q = s .pre .4 in let K = walk (c .before .before) in omega (arith, Q .can .n-is, left-inside K, left-size K, long (c .before .before))
+is-node-requires : tie.Need-is-node-requires Inv-loop μ-loop
+is-node-requires c κs = left-test (walk (c .before .before))
 
-is-positive-requires : tie.Need-is-positive-requires Inv-loop μ-loop
-is-positive-requires c κs =
-    let v = c .before .before .before in
-    let s = v .before in
-    let Q = s .pre .4 in let K = walk v in omega (arith, c .top-at .ensures, Q .can .n-is, left-inside K, left-size K)
-
-top-at-requires-2 : tie.Need-top-at-requires-2 Inv-loop μ-loop
-top-at-requires-2 c κs =
-    let v = c .before .before .before .before .before .before in
-    let s = v .before in
-    let Q = s .pre .4 in let K = walk v in omega (arith, Q .can .n-is, left-inside K, left-size K, long v)
-
-link-at-requires : tie.Need-link-at-requires Inv-loop μ-loop
-link-at-requires c κs =
-    let turn = c .before .before .before .before .before .before in
-    let v = turn .before in
-    let s = v .before in
-    let Q = s .pre .4 in let K = walk v in (
-      omega (arith, c .top-at2 .ensures, Q .can .n-is, left-inside K, left-size K),
-      natural (v .loop .t) (omega (arith, c .top-at2 .ensures, Q .can .n-is)) (left-top K (turn .loop-test .taken) (at-node (c .before .before) (Q .can .n-is))),
-    )
+top-of-requires : tie.Need-top-of-requires Inv-loop μ-loop
+top-of-requires c κs =
+    let turn = c .before .before .before .before in
+    left-has (walk (turn .before)) (turn .loop-test .taken) (sym (c .before .before .is-node .ensures) ∙ c .before .if1 .taken)
 
 uncommit-requires : tie.Need-uncommit-requires Inv-loop μ-loop
 uncommit-requires c κs =
-    let s = c .before .before .before .before .before .before .before .before .before .before in
-    (_, _, _, _, here (c .before) (s .pre .4))
+    let turn = c .before .before .before .before .before .before in (
+      _,
+      _,
+      _,
+      _,
+      uncommit-at (turn .before .before .pre .4) (walk (turn .before)) (turn .loop-test .taken)
+          (sym (c .before .before .before .before .is-node .ensures) ∙ c .before .before .before .if1 .taken) (c .before .top-of .ensures),
+    )
 
 sub-p-2 : tie.Need-sub-p-2 Inv-loop μ-loop
 sub-p-2 c =
-    let turn = c .before .before .before .before .before .before .before .before .before .before in
-    let v = turn .before in
-    let s = v .before in
-    omega (arith, left-more (walk v) (turn .loop-test .taken) (at-node (c .before .before .before .before .before .before) (s .pre .4 .can .n-is)))
+    let turn = c .before .before .before .before .before .before .before .before in
+    omega (
+      arith,
+      left-more (walk (turn .before)) (turn .loop-test .taken)
+          (sym (c .before .before .before .before .before .before .is-node .ensures) ∙ c .before .before .before .before .before .if1 .taken),
+    )
 
 loop-less : tie.Need-loop-less Inv-loop μ-loop
 loop-less c =
-    let turn = c .before .before .before .before .before .before .before .before .before .before in
-    let v = turn .before in
-    let s = v .before in
-    left-less (length (s .args .t .now)) (s .args .x) (v .loop .p) (turn .loop-test .taken)
-    (left-more (walk v) (turn .loop-test .taken) (at-node (c .before .before .before .before .before .before) (s .pre .4 .can .n-is)))
+    let turn = c .before .before .before .before .before .before .before .before in
+    left-near (walk (turn .before)) (turn .loop-test .taken) (sym
+    (c .before .before .before .before .before .before .is-node .ensures) ∙ c .before .before .before .before .before .if1 .taken)
+    (length (turn .before .before .args .t .now))
 
 loop-again : tie.Need-loop-again Inv-loop μ-loop
 loop-again c =
-    let turn = c .before .before .before .before .before .before .before .before .before .before in
-    let v = turn .before in
+    let turn = c .before .before .before .before .before .before .before .before in
     λ P held t₁ c′ Q.
-    left-next (v .loop .inv P held t₁ c′ Q) (turn .loop-test .taken) (at-node (c .before .before .before .before .before .before) (Q .can .n-is))
-    (c .before .uncommit .ensures P _ _ _ (here (c .before .before .before) Q))
+    let K = turn .before .loop .inv P held t₁ c′ Q in
+    let b = sym (c .before .before .before .before .before .before .is-node .ensures) ∙ c .before .before .before .before .before .if1 .taken in
+    left-next K (turn .loop-test .taken) b (c .before .uncommit .ensures P _ _ _
+    (uncommit-at Q K (turn .loop-test .taken) b (c .before .before .before .top-of .ensures)))
 
-down-at-requires : tie.Need-down-at-requires Inv-loop μ-loop
-down-at-requires c κs =
-    let v = c .before .before .before .before .before .before in
-    let s = v .before in
-    let Q = s .pre .4 in let K = walk v in omega (arith, Q .can .n-is, left-inside K, left-size K, long v)
-
-link-at-requires-2 : tie.Need-link-at-requires-2 Inv-loop μ-loop
-link-at-requires-2 c κs =
-    let turn = c .before .before .before .before .before .before in
-    let v = turn .before in
-    let s = v .before in
-    let Q = s .pre .4 in let K = walk v in (
-      omega (arith, c .down-at .ensures, Q .can .n-is, left-inside K, left-size K),
-      natural (v .loop .t) (omega (arith, c .down-at .ensures, Q .can .n-is)) (left-last K (turn .loop-test .taken) (at-spacer (c .before .before) (Q .can .n-is))),
-    )
+down-of-requires : tie.Need-down-of-requires Inv-loop μ-loop
+down-of-requires c κs =
+    let turn = c .before .before .before .before in
+    left-turns (walk (turn .before)) (turn .loop-test .taken) (sym (c .before .before .is-node .ensures) ∙ c .before .if1 .left)
 
 loop-less-2 : tie.Need-loop-less-2 Inv-loop μ-loop
 loop-less-2 c =
-    let turn = c .before .before .before .before .before .before .before in
-    let v = turn .before in
-    let s = v .before in
-    let Q = s .pre .4 in let K = walk v in
-    let b = at-spacer (c .before .before .before) (Q .can .n-is) in
-    let l = left-across K (turn .loop-test .taken) b (read (v .loop .t) (omega (arith, c .before .down-at .ensures, Q .can .n-is)) (left-last K (turn .loop-test .taken) b)
-    (c .link-at2 .ensures)) in
-    left-turns (length (s .args .t .now)) (s .args .x) (v .loop .p) _ (l .0) (l .1) (omega (arith, l .2, left-size K, long v))
+    let turn = c .before .before .before .before .before in
+    left-turn-near (walk (turn .before)) (turn .loop-test .taken) (sym (c .before .before .before .is-node .ensures) ∙ c .before .before .if1 .left)
+    (c .down-of .ensures) (long (turn .before))
 
 loop-again-2 : tie.Need-loop-again-2 Inv-loop μ-loop
 loop-again-2 c =
-    let turn = c .before .before .before .before .before .before .before in
-    let v = turn .before in
-    λ P held t₁ c′ Q.
-    let K = v .loop .inv P held t₁ c′ Q in
-    let b = at-spacer (c .before .before .before) (Q .can .n-is) in
-    left-turn K (turn .loop-test .taken) b (read (v .loop .t) (omega (arith, c .before .down-at .ensures, Q .can .n-is)) (left-last K (turn .loop-test .taken) b) (c .link-at2 .ensures))
+    let turn = c .before .before .before .before .before in
+    λ P held t₁ c′ Q. left-turn (turn .before .loop .inv P held t₁ c′ Q) (turn .loop-test .taken)
+    (sym (c .before .before .before .is-node .ensures) ∙ c .before .before .if1 .left) (c .down-of .ensures)
 
 same-length : tie.Need-same-length Inv-loop μ-loop
 same-length c = long (c .before)
@@ -177,16 +109,13 @@ uncommit-all-spec =
     μ-loop
     sub-p
     loop-holds
-    top-at-requires
-    is-positive-requires
-    top-at-requires-2
-    link-at-requires
+    is-node-requires
+    top-of-requires
     uncommit-requires
     sub-p-2
     loop-less
     loop-again
-    down-at-requires
-    link-at-requires-2
+    down-of-requires
     loop-less-2
     loop-again-2
     same-length

@@ -1,129 +1,35 @@
 -- `links::c::unlink_node` meets its contract: the three words that it writes are those of the event. Assumes nothing.
-use mathlib.Core.Path.{_≡_}
-use Prim.Native.Nat.{suc}
 use native.Mathlib.Omega.{arith}
-use Rattle.links.specs.Steps.{Between}
-use Rattle.links.proofs.Words.{natural, read, can-lower, unlink-done}
+use Rattle.links.proofs.Words.{has-stand, down-inside, up-inside, can-lower, unlink-done}
 use borrow.Author.Needs.{needs}
 use Rattle.links.proofs.c.unlink_node.Statement.{statement}
 use Rattle.links.proofs.c.unlink_node.Tie as tie
 
--- what the caller knows of the node
-abbrev known : (d : tie.Start) → Between (d .pre .0) (d .args .n) (d .args .t .now) (d .pre .1) (d .args .q) (d .pre .2) (d .pre .3)
-known d = d .pre .4 .between
+stand-of-requires : tie.Need-stand-of-requires
+stand-of-requires c κs = has-stand (c .before .pre .4 .between)
 
--- the links read
-x-is : (d : tie.After-link-at3) → let s = d .before .before .before .before .before .before .before .before .before in d .before .before .before .before .before .before .link-at .result ≡ suc (s .pre .1)
-x-is d =
-    let s = d .before .before .before .before .before .before .before .before .before in
-    let B = known s in read (s .args .t .now) (omega (arith, d .before .before .before .before .before .before .before .top-at .ensures, B .n-is)) (B .top-is)
-    (d .before .before .before .before .before .before .link-at .ensures)
+set-down-requires : tie.Need-set-down-requires
+set-down-requires c κs = (down-inside (c .before .before .before .pre .4 .between) (c .before .stand-of .ensures), c .before .stand-of .ensures .down-is .small)
 
-u-is : (d : tie.After-link-at3) → let s = d .before .before .before .before .before .before .before .before .before in d .before .before .before .link-at2 .result ≡ s .pre .2
-u-is d =
-    let s = d .before .before .before .before .before .before .before .before .before in
-    let B = known s in read (s .args .t .now) (omega (arith, d .before .before .before .before .up-at .ensures, B .n-is)) (B .up-is) (d .before .before .before .link-at2 .ensures)
+set-up-requires : tie.Need-set-up-requires
+set-up-requires c κs =
+    let d = c .before .before .before .before in
+    (omega (arith, up-inside (d .before .before .pre .4 .between) (d .stand-of .ensures), c .before .before .set-down .kept .0), d .stand-of .ensures .up-is .small)
 
-d-is : (d : tie.After-link-at3) → let s = d .before .before .before .before .before .before .before .before .before in d .link-at3 .result ≡ s .pre .3
-d-is d =
-    let s = d .before .before .before .before .before .before .before .before .before in
-    let B = known s in read (s .args .t .now) (omega (arith, d .before .down-at .ensures, B .n-is)) (B .down-is) (d .link-at3 .ensures)
-
-top-at-requires : tie.Need-top-at-requires
-top-at-requires c κs = let B = known (c .before) in omega (arith, B .n-is, B .inside, B .size)
-
-link-at-requires : tie.Need-link-at-requires
-link-at-requires c κs =
-    let B = known (c .before .before) in
-    (omega (arith, c .top-at .ensures, B .n-is, B .inside, B .size), natural (c .before .before .args .t .now) (omega (arith, c .top-at .ensures, B .n-is)) (B .top-is))
-
-up-at-requires : tie.Need-up-at-requires
-up-at-requires c κs =
-    let s = c .before .before .before .before in
-    let B = known s in omega (arith, B .n-is, B .inside, B .size)
-
-link-at-requires-2 : tie.Need-link-at-requires-2
-link-at-requires-2 c κs =
-    let s = c .before .before .before .before .before in
-    let B = known s in
-    (omega (arith, c .up-at .ensures, B .n-is, B .inside, B .size), natural (s .args .t .now) (omega (arith, c .up-at .ensures, B .n-is)) (B .up-is))
-
-down-at-requires : tie.Need-down-at-requires
-down-at-requires c κs =
-    let s = c .before .before .before .before .before .before .before in
-    let B = known s in omega (arith, B .n-is, B .inside, B .size)
-
-link-at-requires-3 : tie.Need-link-at-requires-3
-link-at-requires-3 c κs =
-    let s = c .before .before .before .before .before .before .before .before in
-    let B = known s in
-    (omega (arith, c .down-at .ensures, B .n-is, B .inside, B .size), natural (s .args .t .now) (omega (arith, c .down-at .ensures, B .n-is)) (B .down-is))
-
-down-at-requires-2 : tie.Need-down-at-requires-2
-down-at-requires-2 c κs =
-    let s = c .before .before .before .before .before .before .before .before .before .before in
-    let B = known s in omega (arith, u-is (c .before), B .n-is, B .up-in, B .size)
-
-put-link-requires : tie.Need-put-link-requires
-put-link-requires c κs =
-    let s = c .before .before .before .before .before .before .before .before .before .before .before in
-    let B = known s in
-    (omega (arith, c .down-at2 .ensures, u-is (c .before .before), B .n-is, B .up-in, B .size), c .before .before .link-at3 .ensures .small)
-
-up-at-requires-2 : tie.Need-up-at-requires-2
-up-at-requires-2 c κs =
-    let s = c .before .before .before .before .before .before .before .before .before .before .before .before .before .before in
-    let B = known s in omega (arith, d-is (c .before .before .before .before .before), B .n-is, B .down-in, B .size)
-
-put-link-requires-2 : tie.Need-put-link-requires-2
-put-link-requires-2 c κs =
-    let s = c .before .before .before .before .before .before .before .before .before .before .before .before .before .before .before in
-    let B = known s in
-    (omega (arith, c .before .before .before .put-link .kept .0, c .up-at2 .ensures, d-is (c .before .before .before .before .before .before), B .n-is, B .down-in, B .size), c .before .before .before .before .before .before .before .before .before .link-at2 .ensures .small)
-
-top-at-requires-2 : tie.Need-top-at-requires-2
-top-at-requires-2 c κs =
-    let s = c .before .before .before .before .before .before .before .before .before .before .before .before .before .before .before .before .before .before in
-    let B = known s in omega (arith, x-is (c .before .before .before .before .before .before .before .before .before), B .n-is, B .item, B .inside, B .size)
-
-lower-at-requires : tie.Need-lower-at-requires
-lower-at-requires c κs =
-    let s = c .before .before .before .before .before .before .before .before .before .before .before .before .before .before .before .before .before .before .before in
-    let d = c .before .before .before .before .before .before .before .before .before .before in
-    can-lower (known s) (x-is d) (u-is d) (d-is d) (c .before .before .before .before .before .before .before .before .down-at2 .ensures)
-    (c .before .before .before .before .up-at2 .ensures) (c .top-at2 .ensures) (c .before .before .before .before .before .before .before .before .before .before .link-at3 .result)
-    (c .before .before .before .before .before .before .before .before .before .before .before .before .before .link-at2 .result)
-    (c .before .before .before .before .before .before .before .put-link .ensures) (c .before .before .before .put-link2 .ensures) (s .pre .4 .count-is)
+lower-len-requires : tie.Need-lower-len-requires
+lower-len-requires c κs =
+    let d = c .before .before .before .before .before .before .before in
+    let C = d .before .before .pre .4 in
+    can-lower (C .between) (d .stand-of .ensures) _ _ (c .before .before .before .before .before .set-down .ensures) (c .before .before .set-up .ensures) (C .count-is)
 
 same-length : tie.Need-same-length
 same-length c = search needs
 
 returns : tie.Need-returns
 returns c =
-    let s = c .before .before .before .before .before .before .before .before .before .before .before .before .before .before .before .before .before .before .before .before .before in
-    let d = c .before .before .before .before .before .before .before .before .before .before .before .before in
-    unlink-done (known s) (x-is d) (u-is d) (d-is d) (c .before .before .before .before .before .before .before .before .before .before .down-at2 .ensures)
-    (c .before .before .before .before .before .before .up-at2 .ensures) (c .before .before .top-at2 .ensures)
-    (c .before .before .before .before .before .before .before .before .before .before .before .before .link-at3 .result)
-    (c .before .before .before .before .before .before .before .before .before .before .before .before .before .before .before .link-at2 .result)
-    (c .before .before .before .before .before .before .before .before .before .put-link .ensures) (c .before .before .before .before .before .put-link2 .ensures) (d-is d) (u-is d)
-    (c .before .lower-at .ensures)
+    let d = c .before .before .before .before .before .before .before .before .before in
+    unlink-done (d .before .before .pre .4 .between) (d .stand-of .ensures) (c .before .before .before .before .before .before .before .set-down .ensures)
+    (c .before .before .before .before .set-up .ensures) (c .before .lower-len .ensures)
 
 pub unlink-node-spec : {M : Type 1} → statement M
-unlink-node-spec =
-    tie.close
-    (tie.spec
-    top-at-requires
-    link-at-requires
-    up-at-requires
-    link-at-requires-2
-    down-at-requires
-    link-at-requires-3
-    down-at-requires-2
-    put-link-requires
-    up-at-requires-2
-    put-link-requires-2
-    top-at-requires-2
-    lower-at-requires
-    same-length
-    returns)
+unlink-node-spec = tie.close (tie.spec stand-of-requires set-down-requires set-up-requires lower-len-requires same-length returns)
