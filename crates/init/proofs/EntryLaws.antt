@@ -14,9 +14,10 @@ use Rattle.rules.specs.Problem.{Entry, Pair, as-entry, pairs-kept}
 use Rattle.rules.specs.Order.{kept}
 use Rattle.rules.specs.Links.{top, up, down, link, join}
 use Rattle.laws.specs.Faults.{below-lt}
-use Rattle.words.specs.Read.{CanRise, rise}
+use Rattle.words.specs.Read.{CanRise}
 use Rattle.problem.specs.CutLaws.{pair-at, entries-at, entries-step, pairs-none}
 use Rattle.tables.specs.Build.{four, add, add-all}
+use Rattle.tables.specs.Undo.{rise}
 use Rattle.init.specs.SetUp.{as-entries, option-at, Clean, AllClean, Small, Live}
 use Rattle.init.proofs.AlikeLaws.{header, with-node, length-add, all-none, all-cons}
 use Rattle.init.proofs.LiveLaws.{count-stays, add-live}

@@ -1,6 +1,6 @@
 -- The headers, with no node in their lists yet.
 use mathlib.Core.Path.{_≡_, refl, ap, _∙_}
-use mathlib.Core.List.{List, [], _∷_}
+use mathlib.Core.List.{List, []}
 use Prim.Native.Nat.{ℕ, zero, suc, _+_, _*_, _≤_, _<_}
 use native.Mathlib.Omega.{arith}
 use native.Mathlib.Numerals.{add-one}
@@ -32,15 +32,8 @@ module _ (np ns : ℕ) where
   unfolding last-or
   header-words zero h = (unused 0 (omega arith) (omega arith), unused 1 (omega arith) (omega arith), unused 2 (omega arith) (omega arith), unused 3 (omega arith) (omega arith))
     where
-      zeros : (r : ℕ) → r < 4 → word (pos 0 ∷ pos 0 ∷ pos 0 ∷ pos 0 ∷ []) r ≡ pos 0
-      zeros zero h = refl
-      zeros (suc zero) h = refl
-      zeros (suc (suc zero)) h = refl
-      zeros (suc (suc (suc zero))) h = refl
-      zeros (suc (suc (suc (suc r)))) h = absurd (omega arith)
-
       unused : (r : ℕ) {k : ℕ} → r < 4 → k ≡ 2 * (n + 2) + r → word table k ≡ pos 0
-      unused r h e = rw e (fresh-unused (bare np ns) r h ∙ zeros r h)
+      unused r h e = rw e (fresh-unused (bare np ns) r h)
   header-words (suc i) h =
       let c = no-column i in
       let a = fresh-header (bare np ns) i in (

@@ -1,10 +1,10 @@
 -- The choices of an item have different nodes.
-use mathlib.Core.Path.{_≡_, refl, ap}
-use mathlib.Core.Logic.{_⊎_, inl, inr, _≢_}
+use mathlib.Core.Path.{_≡_, refl}
+use mathlib.Core.Logic.{_≢_}
 use mathlib.Core.Bool.{Bool, true, false, cond, _||_}
 use mathlib.Core.Option.{some}
 use mathlib.Core.List.{List, [], _∷_, _++_, List·Memᴰ as Mem, List·Memᴰ·head as here}
-use mathlib.Core.List.{List·Memᴰ·not-nil as not-nil, Memᴰ·append-right as in-right}
+use mathlib.Core.List.{Memᴰ·append-right as in-right}
 use Prim.Native.Nat.{ℕ, suc, _+_, _<_}
 use native.Mathlib.Omega.{arith}
 use lib.Dec.{T, eqb, eqb→eq, eqb-refl}
@@ -14,7 +14,8 @@ use Rattle.rules.specs.Problem.{Entry, Problem, items}
 use Rattle.rules.specs.Order.{has-item, agree, Placed, kept, spacer-after, place, placed, open-options, Choice, node, place-of, choices}
 use Rattle.rules.specs.Walk.{Level}
 use Rattle.rules.specs.Calls.{level-of}
-use Rattle.laws.specs.Lists.{Apart, apart-nil, apart-cons, apart-keep, apart-map, apart-with, also-mem, keep-mem}
+use Rattle.laws.specs.Lists.{Apart, apart-nil, apart-cons, apart-keep, apart-map, apart-with, keep-mem}
+use Rattle.tables.specs.Nodes.{place-first}
 use Rattle.knuth.specs.Lists.{is-true}
 
 -- where the option's item stands is one of its places
@@ -31,20 +32,6 @@ place-small i (e ∷ es) t = step (eqb (e .item) i) t (λ u. place-small i es u)
 abbrev Before : Placed → Placed → Type 0
 Before a b = a .first + length (a .entries) < b .first
 
-place-late : (np m p : ℕ) (os : List (List Entry)) {o : Placed} → Mem o (place np m p os) → p < o .first
-unfolding place
-place-late np m p [] k = absurd (not-nil k)
-place-late np m p (x ∷ os) {o} k = step (kept np x) (also-mem (kept np x) k) (λ n. place-late np (m + 1) (spacer-after (kept np x) p x) os n) (spacer (kept np x))
-  where
-    spacer : (b : Bool) → p < suc (spacer-after b p x)
-    spacer true = omega arith
-    spacer false = omega arith
-
-    step : (b : Bool) → (T b × (o ≡ record { number = m; first = p + 1; entries = x })) ⊎ Mem o (place np (m + 1) (spacer-after (kept np x) p x) os)
-        → (Mem o (place np (m + 1) (spacer-after (kept np x) p x) os) → spacer-after (kept np x) p x < o .first) → p < suc (spacer-after (kept np x) p x) → p < o .first
-    step b (inl (t, e)) rec h = omega (arith, ap (λ (y : Placed). y .first) e)
-    step b (inr n) rec h = omega (arith, rec n)
-
 place-ordered : (np m p : ℕ) (os : List (List Entry)) → Apart Before (place np m p os)
 unfolding place
 place-ordered np m p [] = apart-nil
@@ -52,7 +39,7 @@ place-ordered np m p (x ∷ os) = step (kept np x) (λ q. place-ordered np (m + 
   where
     step : (b : Bool) → ((q : ℕ) → Apart Before (place np (m + 1) q os))
         → Apart Before (also b (record { number = m; first = p + 1; entries = x }) (place np (m + 1) (spacer-after b p x) os))
-    step true rec = apart-cons {x = record { number = m; first = p + 1; entries = x }} (λ y k. let h = place-late np (m + 1) (p + length x + 1) os k in omega arith) (rec (p + length x + 1))
+    step true rec = apart-cons {x = record { number = m; first = p + 1; entries = x }} (λ y k. let h = place-first np (m + 1) (p + length x + 1) os k in omega arith) (rec (p + length x + 1))
     step false rec = rec p
 
 abbrev pub NodesApart : List Choice → Type 0

@@ -15,6 +15,7 @@ use Rattle.rules.specs.Links.{Event, cost, own, touch, try, choose, held}
 use Rattle.rules.specs.Walk.{Level, made, chosen, in-order, numbers, Move, back-to, retreat, go-into, enter, solution, paused, Walk, stop, visiting, follow, at-point, walk, resume, branch, solutions}
 use Rattle.laws.specs.Lists.{mem-length}
 use Rattle.laws.specs.Order.{choice-facts, Sound}
+use Rattle.tables.specs.Met.{cost-append}
 use Rattle.knuth.specs.Listed.{in-turn, listed}
 use Rattle.knuth.specs.Search.{fewer, few}
 use Rattle.knuth.specs.Trace.{Trace, nothing, _then_, visit, pay, deeper-by, tries, covers, spread, tree, whole, rest, to-come, remains, made-by}
@@ -39,11 +40,6 @@ pay-then n t u = λ i. record { visits = t .visits ++ u .visits; found = t .foun
 
 pay-pay : (m n : ℕ) (t : Trace) → pay m (pay n t) ≡ pay (m + n) t
 pay-pay m n t = λ i. record { visits = t .visits; found = t .found; updates = sym (add-assoc m n (t .updates)) i }
-
-cost-append : (xs ys : List Event) → cost (xs ++ ys) ≡ cost xs + cost ys
-unfolding cost
-cost-append [] ys = sym (zero-add (cost ys))
-cost-append (x ∷ xs) ys = omega (arith, cost-append xs ys)
 
 -- ---- the tree
 

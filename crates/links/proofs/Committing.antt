@@ -2,25 +2,23 @@
 use mathlib.Core.Path.{_≡_, refl, sym, ap, _∙_, subst}
 use mathlib.Core.Logic.{_≢_}
 use mathlib.Core.Bool.{Bool, true, false, not}
-use mathlib.Core.List.{List, [], _∷_, _++_, append-assoc, append-nil, List·Memᴰ as Mem, List·Memᴰ·head as here, List·Memᴰ·tail as there, Memᴰ·append-left as in-left, Memᴰ·append-right as in-right}
+use mathlib.Core.List.{List, [], _∷_, _++_, append-assoc, append-nil, List·Memᴰ as Mem, List·Memᴰ·head as here, Memᴰ·append-left as in-left, Memᴰ·append-right as in-right}
 use Prim.Native.Nat.{ℕ, zero, suc, _+_, _*_, _<_, _≤_}
 use native.Mathlib.Omega.{arith}
 use borrow.Author.Tests.{lt-ltb}
-use lib.Dec.{T, eqb, eqb→eq, ltb→lt}
+use lib.Dec.{T, eqb→eq, ltb→lt}
 use lib.IntN.{ℤ, pos}
 use lib.Signed.{ltZ}
 use lib.ListN.{length, length-append}
 use Rattle.rules.specs.Words.{word, same}
 use Rattle.rules.specs.Problem.{Entry, Problem, items}
-use Rattle.rules.specs.Knuth.{Has}
-use Rattle.rules.specs.Order.{has-item, Choice, place-of}
+use Rattle.rules.specs.Order.{has-item, Choice}
 use Rattle.rules.specs.Links.{Event, Node, others, own, touch, commit-node, commit, try, committed, cost, top, colour-at, run-events}
 use Rattle.words.specs.Read.{Link}
-use Rattle.laws.specs.Lists.{Apart, apart-nil, apart-cons, apart-with}
+use Rattle.laws.specs.Lists.{Apart, apart-nil, apart-cons}
 use Rattle.laws.specs.Faults.{Good, ranged, simple}
-use Rattle.laws.specs.Order.{agree→, has-item→}
-use Rattle.tables.specs.Nodes.{Of, linked-of, nodes, nodes-at, nodes-range, placed-range, others-mem, others-apart, others-other}
-use Rattle.tables.specs.Shows.{Shows, view, marked, one-entry, touch-leads, commit-leads}
+use Rattle.tables.specs.Nodes.{Of, linked-of, nodes, nodes-at, nodes-range, placed-range, others-mem}
+use Rattle.tables.specs.Shows.{Shows, view, marked, one-entry, touch-leads, commit-leads, others-at, others-items, others-held}
 use Rattle.tables.specs.Views.{Named, shade}
 use Rattle.tables.specs.Met.{bare-own, chosen-marked, chosen-held}
 use Rattle.links.specs.Moves.{bare, Done, CanCover, Covered, CanCommit, Committed}
@@ -201,22 +199,6 @@ module _ {P : Problem} {held : List Entry} {n : ℕ} {t₀ : List ℤ} {c : Choi
   F : Of P held (own c .item) c
   F = linked-of P held (own c .item) (C .listed)
 
-  abbrev es : List Entry
-  es = c .option .entries
-
-  -- an item's node stands at the item's place
-  at : {y : Node} → Mem y (others c) → (y .at ≡ c .option .first + place-of (y .entry .item) es) × Mem (y .entry) es
-  at m = nodes-at (c .option .first) (simple good (c .option) (F .placed-in)) (others-mem c m)
-
-  items-apart : Apart (λ (a b : Node). a .entry .item ≢ b .entry .item) (others c)
-  items-apart = apart-with (others-apart c) (λ a b ma mb ne z. ne (at ma .0 ∙ ap (λ (k : ℕ). c .option .first + place-of k es) z ∙ sym (at mb .0)))
-
-  -- an entry of the option whose item is held, is held itself
-  again : {y : Node} → Mem y (others c) → Has h (y .entry .item) → Mem (y .entry) h
-  again {y} m (d, here u, w) =
-      absurd (others-other c m (at m .0 ∙ ap (λ (k : ℕ). c .option .first + place-of k es) (sym w ∙ ap (λ (z : Entry). z .item) u) ∙ ap (λ (k : ℕ). c .option .first + k) (sym (F .at-place))))
-  again {y} m (d, there k, w) = there (rw (one-entry d (y .entry) (agree→ held es (F .agrees) k (at m .1) w .0) w) at k)
-
   -- the nodes xs are committed
   module _ (xs zs : List Node) (split : others c ≡ xs ++ zs) where
     in-others : {y : Node} → Mem y xs → Mem y (others c)
@@ -224,8 +206,9 @@ module _ {P : Problem} {held : List Entry} {n : ℕ} {t₀ : List ℤ} {c : Choi
 
     shows-now : Shows P (committed h xs) (run-events (items P) t₀ (commit P h xs))
     shows-now =
-        commit-leads P good h (apart-part xs zs (rw split at items-apart)) (λ y m. ranged good (c .option) (F .placed-in) (y .entry) (at (in-others m) .1))
-        (λ y m k. again (in-others m) (has-item→ (y .entry .item) h k)) t₀ (C .shown .shows) .0
+        commit-leads P good h (apart-part xs zs (rw split at (others-items P good held (own c .item) c (C .listed))))
+        (λ y m. ranged good (c .option) (F .placed-in) (y .entry) (others-at P good held (own c .item) c (C .listed) (in-others m) .1))
+        (λ y m k. others-held P good held (own c .item) c (C .listed) (in-others m) k) t₀ (C .shown .shows) .0
 
     module _ (y : Node) (ys : List Node) (z : zs ≡ y ∷ ys) where
       y-in : Mem y (others c)

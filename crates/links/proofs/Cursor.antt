@@ -3,9 +3,8 @@
 use mathlib.Core.Path.{_≡_, refl, sym, ap, _∙_}
 use mathlib.Core.Logic.{_≢_}
 use mathlib.Core.List.{List, [], _∷_, _++_, map, append-assoc, append-nil, List·Memᴰ as Mem, List·Memᴰ·head as here, List·Memᴰ·tail as there}
-use Prim.Native.Nat.{ℕ, suc, _+_}
+use Prim.Native.Nat.{ℕ, _+_}
 use lib.IntN.{ℤ}
-use lib.ListN.{length}
 use Rattle.rules.specs.Lists.{flat}
 use Rattle.rules.specs.Links.{Event, cost, apply, run-events, first-or, last-or}
 use Rattle.laws.specs.Lists.{flat-append}
@@ -58,10 +57,6 @@ module _ {A : Type 0} (f : A → ℕ) where
   unfolding last-or
   no-rear h [] o e = refl
   no-rear h (x ∷ xs) o e = absurd (last-all (λ k. k ≢ h) (f x) xs (o x (here refl)) (λ z m. o z (there m)) e)
-
-  pub map-length : (xs : List A) → length (map f xs) ≡ length xs
-  map-length [] = refl
-  map-length (x ∷ xs) = ap suc (map-length xs)
 
 -- one step of a walk
 pub split-on : {A : Type 0} {l zs : List A} {x : A} {ys : List A} (xs : List A) → l ≡ xs ++ zs → zs ≡ x ∷ ys → l ≡ (xs ++ (x ∷ [])) ++ ys

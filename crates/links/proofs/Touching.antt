@@ -6,7 +6,7 @@ use mathlib.Core.List.{List, [], _∷_, _++_, map, append-nil, List·Memᴰ as M
 use Prim.Native.Nat.{ℕ, zero, suc, _+_, _-_, _<_}
 use native.Mathlib.Omega.{arith}
 use lib.IntN.{ℤ, pos}
-use lib.ListN.{length}
+use lib.ListN.{length, length-map}
 use Rattle.rules.specs.Lists.{flat}
 use Rattle.rules.specs.Words.{word}
 use Rattle.rules.specs.Problem.{Entry, Problem, items}
@@ -24,7 +24,7 @@ use Rattle.tables.specs.Met.{met-all, walked, own-list, met-table, met-cursor, 
 use Rattle.links.specs.Moves.{Done}
 use Rattle.links.specs.Steps.{HasLink, Short, CanTouch, CanMeet}
 use Rattle.links.proofs.Words.{has-link, read}
-use Rattle.links.proofs.Cursor.{Front, front, no-front, first-all, last-all, last-snoc, map-length, split-on, run-snoc, cost-snoc}
+use Rattle.links.proofs.Cursor.{Front, front, no-front, first-all, last-all, last-snoc, split-on, run-snoc, cost-snoc}
 use Rattle.links.proofs.Bounds.{spans, spans-length, spans-part, linked-few, met-all-few}
 
 -- what is done where the choice d is met
@@ -73,7 +73,7 @@ module _ {P : Problem} {held : List Entry} {n : ℕ} {t₀ : List ℤ} {e : Entr
           arith,
           ap length (fold-list (view P held) (met-all P held e xs) i),
           keep-length (λ x. not (among (unlinks (met-all P held e xs)) x)) (map node l),
-          map-length node l,
+          length-map l node,
           spans-length l,
           linked-few P (since i held) i,
           C .shown .small,
@@ -97,7 +97,7 @@ module _ {P : Problem} {held : List Entry} {n : ℕ} {t₀ : List ℤ} {e : Entr
       pub length-word : word t (top (items P) head) ≡ pos (length (linked P held (e .item)))
       length-word =
           table-now .counted (e .item) (C .item)
-          ∙ ap pos (ap length (own-list P G held e (C .item) (C .free) xs zs split) ∙ map-length node (linked P held (e .item)))
+          ∙ ap pos (ap length (own-list P G held e (C .item) (C .free) xs zs split) ∙ length-map (linked P held (e .item)) node)
 
       pub can-meet : (c : Choice) (ys : List Choice) → zs ≡ c ∷ ys → {q : ℕ} → q ≡ node c → CanMeet P (walked P held e xs) n t held c q
       can-meet c ys z {q} w =

@@ -92,7 +92,6 @@ pub record CanCommit (P : Problem) (held : List Entry) (n : ℕ) (t : List ℤ) 
   pub shown : Shown P (own c ∷ held) t
   pub n-is : n ≡ items P
   pub primary : own c .item < P .np
-  pub free : T (not (has-item (own c .item) held))
   pub listed : Mem c (linked P held (own c .item))
   pub is : x ≡ node c
 

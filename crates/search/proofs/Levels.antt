@@ -2,7 +2,7 @@
 use mathlib.Core.Path.{_≡_, refl, sym, ap, _∙_, subst}
 use mathlib.Core.Bool.{not}
 use mathlib.Core.Option.{some}
-use mathlib.Core.List.{List, [], _∷_, _++_, map, map-map, map-append, List·Memᴰ as Mem, List·Memᴰ·head as here, Memᴰ·append-right as in-right}
+use mathlib.Core.List.{List, _∷_, _++_, map, map-map, map-append, List·Memᴰ as Mem, List·Memᴰ·head as here, Memᴰ·append-right as in-right}
 use Prim.Native.Nat.{ℕ, suc, _+_, _<_}
 use native.Mathlib.Omega.{arith}
 use lib.Dec.{T}
@@ -11,7 +11,7 @@ use Rattle.rules.specs.Lists.{run}
 use Rattle.rules.specs.Words.{nat}
 use Rattle.rules.specs.Problem.{Entry, Problem, items}
 use Rattle.rules.specs.Order.{has-item, Placed, Choice, node, pick, choices, open-options, open-items}
-use Rattle.rules.specs.Links.{Event, cost, own, linked, held, touch, try, choose, table, run-events, link, top, up, down}
+use Rattle.rules.specs.Links.{cost, own, linked, held, touch, try, choose, table, run-events, link, top, up, down}
 use Rattle.rules.specs.Walk.{Level, made, chosen}
 use Rattle.laws.specs.Lists.{keep-length, length-run, among}
 use Rattle.laws.specs.Faults.{Good}
@@ -19,7 +19,7 @@ use Rattle.laws.specs.Order.{open-item, open-item-facts, pick-some, pick-sound}
 use Rattle.laws.specs.Reached.{Reached, level}
 use Rattle.tables.specs.Again.{touched, touched-shows, table-try, covered-list}
 use Rattle.tables.specs.Fresh.{fresh-shows}
-use Rattle.tables.specs.Met.{bare-own}
+use Rattle.tables.specs.Met.{bare-own, cost-append}
 use Rattle.tables.specs.Nodes.{Of, linked-of, nodes, placed-range}
 use Rattle.tables.specs.Points.{follow-linked, ring-read, chain, primary-ring, linked-open}
 use Rattle.tables.specs.Reached.{reached-played, reached-shows}
@@ -88,11 +88,6 @@ module _ (P : Problem) (G : Good P) {s : List Level} (r : Reached P (pick P) s) 
 abbrev pub covered : Problem → Level → List Level → List ℤ
 covered P v above = touched P (made above) (own (v .tried))
 
-cost-append : (es fs : List Event) → cost (es ++ fs) ≡ cost es + cost fs
-unfolding cost
-cost-append [] fs = omega arith
-cost-append (e ∷ es) fs = omega (arith, cost-append es fs)
-
 module _ (P : Problem) (G : Good P) (small : nodes P < 2147483648) {v : Level} {above : List Level} (r : Reached P (pick P) (v ∷ above)) where
   abbrev c : Choice
   c = v .tried
@@ -160,7 +155,7 @@ module _ (P : Problem) (G : Good P) (small : nodes P < 2147483648) {v : Level} {
   }
 
   pub can-commit : CanCommit P h (items P) (covered P v above) c (node c)
-  can-commit = record { shown = covered-shown; n-is = refl; primary = primary; free = free; listed = listed; is = refl }
+  can-commit = record { shown = covered-shown; n-is = refl; primary = primary; listed = listed; is = refl }
 
   pub is-node : {held : List Entry} {t : List ℤ} → Shown P held t → IsNode P held (items P) t c (node c)
   is-node S = record { shown = S; n-is = refl; placed-in = of-item .placed-in; inside = of-item .inside; is = refl }

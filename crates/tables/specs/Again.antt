@@ -49,7 +49,7 @@ module _ (P : Problem) (G : Good P) {cs : List Choice} (p : Played P cs) (i : �
 
   -- the option uncommitted
   pub try-undone : undo-all (items P) (table P (c ∷ cs)) (try P (held cs) c) ≡ touched P cs (own c)
-  try-undone = rw (table-try P c cs) (try-leads P G (held cs) i small fr c mc (touched P cs (own c)) touched-shows .1)
+  try-undone = rw (table-try P c cs) (try-leads P G (held cs) i c mc (touched P cs (own c)) touched-shows .1)
 
   -- and the item uncovered: the point above, word for word
   pub cover-undone : undo-all (items P) (touched P cs (own c)) (touch P (held cs) (own c)) ≡ table P cs

@@ -640,14 +640,7 @@ module _ (P : Problem) where
       late y r (inr (e, h)) = omega arith
 
       unused-zero : (r : ℕ) → r < 4 → getD (fresh P) (at-word P 0 r) (pos 0) ≡ pos 0
-      unused-zero r h = ap (λ (k : ℕ). getD (fresh P) k (pos 0)) (omega arith) ∙ fresh-unused P r h ∙ go r h
-        where
-          go : (r : ℕ) → r < 4 → getD (pos 0 ∷ pos 0 ∷ pos 0 ∷ pos 0 ∷ []) r (pos 0) ≡ pos 0
-          go zero h = refl
-          go (suc zero) h = refl
-          go (suc (suc zero)) h = refl
-          go (suc (suc (suc zero))) h = refl
-          go (suc (suc (suc (suc r)))) h = absurd (omega arith)
+      unused-zero r h = ap (λ (k : ℕ). getD (fresh P) k (pos 0)) (omega arith) ∙ fresh-unused P r h
 
       spacer-zero : (r : ℕ) → r < 2 → getD (fresh P) (at-word P (items P + 1) r) (pos 0) ≡ pos 0
       spacer-zero zero h = fresh-spacer P 0 (omega arith)

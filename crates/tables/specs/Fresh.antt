@@ -320,12 +320,19 @@ module _ (P : Problem) where
       ∙ getD-right (ring-words P ++ unused ++ header-words P) spacer (2 * (n + 2) + 4 + 4 * n) (2 * (n + 2) + 4 * (n + 1) + r) r front-3 (omega arith)
 
   -- node 0's
-  pub fresh-unused : (r : ℕ) → r < 4 → getD (fresh P) (2 * (n + 2) + r) (pos 0) ≡ getD unused r (pos 0)
+  pub fresh-unused : (r : ℕ) → r < 4 → getD (fresh P) (2 * (n + 2) + r) (pos 0) ≡ pos 0
   fresh-unused r h =
       fresh-early (2 * (n + 2) + r) (omega arith)
       ∙ getD-left (ring-words P ++ unused ++ header-words P) spacer (2 * (n + 2) + r) (omega (arith, front-3))
       ∙ getD-left (ring-words P ++ unused) (header-words P) (2 * (n + 2) + r) (omega (arith, length-append (ring-words P) unused, ring-length))
-      ∙ getD-right (ring-words P) unused (2 * (n + 2)) (2 * (n + 2) + r) r ring-length refl
+      ∙ getD-right (ring-words P) unused (2 * (n + 2)) (2 * (n + 2) + r) r ring-length refl ∙ zeros r h
+    where
+      zeros : (r : ℕ) → r < 4 → getD unused r (pos 0) ≡ pos 0
+      zeros zero h = refl
+      zeros (suc zero) h = refl
+      zeros (suc (suc zero)) h = refl
+      zeros (suc (suc (suc zero))) h = refl
+      zeros (suc (suc (suc (suc r)))) h = absurd (omega arith)
 
   -- the last spacer's
   pub fresh-end : (y : ℕ) → suc y ≡ nodes P → (getD (fresh P) (2 * (n + 2) + 4 * y + 2) (pos 0) ≡ pos 0) × (getD (fresh P) (2 * (n + 2) + 4 * y + 3) (pos 0) ≡ pos 0)

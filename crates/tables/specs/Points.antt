@@ -9,7 +9,7 @@ use native.Mathlib.Omega.{arith}
 use native.Mathlib.Decide.{ℕ-discrete}
 use lib.Dec.{T, eqb}
 use lib.IntN.{ℤ, pos}
-use lib.ListN.{length, getD}
+use lib.ListN.{length, getD, length-map}
 use borrow.Author.Tests.{eq-eqb, ne-eqb}
 use Rattle.rules.specs.Lists.{each, has, run}
 use Rattle.rules.specs.Words.{nat}
@@ -202,11 +202,7 @@ module _ (P : Problem) (G : Good P) where
           × (getD t (top (items P) (suc i)) (pos 0) ≡ pos (length (choices i (open-options P chosen))))
       chain i hi fr =
           let r = list-read P (held cs) t (point-shows P G S p) i hi (rw (held-chosen i) fr) in
-          (r .0 ∙ ap (map node) (linked-open i), r .1 ∙ ap pos (map-length node (linked P (held cs) i)) ∙ ap (λ (l : List Choice). pos (length l)) (linked-open i))
-        where
-          map-length : {A B : Type 0} (f : A → B) (l : List A) → length (map f l) ≡ length l
-          map-length f [] = refl
-          map-length f (x ∷ l) = ap suc (map-length f l)
+          (r .0 ∙ ap (map node) (linked-open i), r .1 ∙ ap pos (length-map (linked P (held cs) i) node) ∙ ap (λ (l : List Choice). pos (length l)) (linked-open i))
 
       -- the primary ring lists the open items in order
       pub primary-ring : follow (λ i. link t (right i)) 0 (suc (P .np)) (link t (right 0)) ≡ map suc (open-items P chosen)

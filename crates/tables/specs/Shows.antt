@@ -440,39 +440,41 @@ module _ (P : Problem) (G : Good P) where
       later y m (d, here u, w) = absurd (r y m (ap (λ (z : Entry). z .item) (sym u) ∙ w))
       later y m (d, there k, w) = there (again y (there m) (has-item← (y .entry .item) held (d, k, w)))
 
-  module _ (held : List Entry) (i : ℕ) (small : i < items P) (fresh : T (not (has-item i held))) (c : Choice) (mc : Mem c (linked P held i)) where
+  -- the other nodes of an option that is linked
+  module _ (held : List Entry) (i : ℕ) (c : Choice) (mc : Mem c (linked P held i)) where
     F : Of P held i c
     F = linked-of P held i mc
 
     abbrev es : List Entry
     es = c .option .entries
 
-    items-apart : Apart (λ (a b : Node). a .entry .item ≢ b .entry .item) (others c)
-    items-apart = apart-with (others-apart c) (λ a b ma mb ne z.
-        let x = nodes-at (c .option .first) (simple G (c .option) (F .placed-in)) (others-mem c ma) in
-        let y = nodes-at (c .option .first) (simple G (c .option) (F .placed-in)) (others-mem c mb) in
-        ne (x .0 ∙ ap (λ (k : ℕ). c .option .first + place-of k es) z ∙ sym (y .0)))
+    -- they stand at their items' places
+    pub others-at : {n : Node} → Mem n (others c) → (n .at ≡ c .option .first + place-of (n .entry .item) (c .option .entries)) × Mem (n .entry) (c .option .entries)
+    others-at m = nodes-at (c .option .first) (simple G (c .option) (F .placed-in)) (others-mem c m)
+
+    pub others-items : Apart (λ (a b : Node). a .entry .item ≢ b .entry .item) (others c)
+    others-items = apart-with (others-apart c) (λ a b ma mb ne z. ne (others-at ma .0 ∙ ap (λ (k : ℕ). c .option .first + place-of k es) z ∙ sym (others-at mb .0)))
+
+    -- where the item of one is held, it is with this very entry
+    pub others-held : {n : Node} → Mem n (others c) → T (has-item (n .entry .item) (own c ∷ held)) → Mem (n .entry) (own c ∷ held)
+    others-held {n} m t = go (has-item→ (n .entry .item) (own c ∷ held) t)
+      where
+        go : Has (own c ∷ held) (n .entry .item) → Mem (n .entry) (own c ∷ held)
+        go (d, here u, w) =
+            absurd (others-other c m (others-at m .0 ∙ ap (λ (k : ℕ). c .option .first + place-of k es) (sym w ∙ ap (λ (z : Entry). z .item) u ∙ F .own-item) ∙ ap (λ (k : ℕ). c .option .first + k) (sym (F .at-place))))
+        go (d, there k, w) = there (rw (one-entry d (n .entry) (agree→ held es (F .agrees) k (others-at m .1) w .0) w) at k)
 
     pub try-leads : Leads P (own c ∷ held) (try P held c) (committed (own c ∷ held) (others c))
     unfolding try
     try-leads =
-        commit-leads (own c ∷ held) items-apart
-        (λ n m. ranged G (c .option) (F .placed-in) (n .entry) (at n m .1))
-        (λ n m t. go n (at n m .0) (at n m .1) m (has-item→ (n .entry .item) (own c ∷ held) t))
-      where
-        at : (n : Node) → Mem n (others c) → (n .at ≡ c .option .first + place-of (n .entry .item) es) × Mem (n .entry) es
-        at n m = nodes-at (c .option .first) (simple G (c .option) (F .placed-in)) (others-mem c m)
+        commit-leads (own c ∷ held) others-items (λ n m. ranged G (c .option) (F .placed-in) (n .entry) (others-at m .1)) (λ n m t. others-held m t)
 
-        go : (n : Node) → n .at ≡ c .option .first + place-of (n .entry .item) es → Mem (n .entry) es → Mem n (others c) → Has (own c ∷ held) (n .entry .item) → Mem (n .entry) (own c ∷ held)
-        go n a me m (d, here u, w) =
-            absurd (others-other c m (a ∙ ap (λ (k : ℕ). c .option .first + place-of k es) (sym w ∙ ap (λ (z : Entry). z .item) u ∙ F .own-item) ∙ ap (λ (k : ℕ). c .option .first + k) (sym (F .at-place))))
-        go n a me m (d, there k, w) = there (rw (one-entry d (n .entry) (agree→ held es (F .agrees) k me w .0) w) at k)
-
+  module _ (held : List Entry) (i : ℕ) (small : i < items P) (fresh : T (not (has-item i held))) (c : Choice) (mc : Mem c (linked P held i)) where
     pub choose-leads : Leads P held (choose P held c) (committed (own c ∷ held) (others c))
     unfolding choose
     choose-leads =
         then-leads P held (own c ∷ held) (committed (own c ∷ held) (others c)) (touch P held (own c)) (try P held c)
-        (touch-leads P G held (own c) (rw (F .own-item) small) (rw (F .own-item) fresh)) try-leads
+        (touch-leads P G held (own c) (rw (F held i c mc .own-item) small) (rw (F held i c mc .own-item) fresh)) (try-leads held i c mc)
 
 -- ---- points
 

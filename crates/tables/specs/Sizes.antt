@@ -1,12 +1,12 @@
 -- The table of the problem that faultless words mean is as long as refusal 9 asks for.
-use mathlib.Core.Path.{_≡_, refl, ap, _∙_}
+use mathlib.Core.Path.{_≡_, refl, _∙_}
 use mathlib.Core.Bool.{Bool, true, false}
 use mathlib.Core.List.{List, [], _∷_, map, List·Memᴰ as Mem, List·Memᴰ·head as here, List·Memᴰ·tail as there}
-use Prim.Native.Nat.{ℕ, suc, _+_}
+use Prim.Native.Nat.{ℕ, _+_}
 use native.Mathlib.Omega.{arith}
 use lib.Dec.{T, ltb}
 use lib.IntN.{ℤ, pos, negsuc}
-use lib.ListN.{length, length-set}
+use lib.ListN.{length, length-map, length-set}
 use Rattle.rules.specs.Lists.{also, keep, has, tally, one-if}
 use Rattle.rules.specs.Words.{below, nat}
 use Rattle.rules.specs.Problem.{Problem, items, Pair, Cut, fault, as-entry, meant, pairs-kept, count-pairs, sizes, node-count, table-length}
@@ -15,10 +15,6 @@ use Rattle.rules.specs.Links.{Event, unlink, remove, mark, fresh, apply, run-ev
 use Rattle.laws.specs.Faults.{Faultless, faultless, good-meant}
 use Rattle.tables.specs.Fresh.{fresh-shows}
 use Rattle.tables.specs.Nodes.{span, nodes}
-
-map-length : {A B : Type 0} (f : A → B) (l : List A) → length (map f l) ≡ length l
-map-length f [] = refl
-map-length f (x ∷ l) = ap suc (map-length f l)
 
 -- a faultless option is kept as its words say
 kept-words : (C : Cut) (o : List Pair) → ((e : Pair) → Mem e o → Faultless (C .np) (C .np + C .ns) e) → kept (C .np) (map as-entry o) ≡ pairs-kept (C .np) o
@@ -40,7 +36,7 @@ span-words C m p (o ∷ os) h =
     step : (b : Bool) → ((p′ : ℕ) → span (place (C .np) (m + 1) p′ (map (λ o. map as-entry o) os)) ≡ count-pairs (keep (pairs-kept (C .np)) os) + tally (pairs-kept (C .np)) os)
         → span (also b (record { number = m; first = p + 1; entries = map as-entry o }) (place (C .np) (m + 1) (spacer-after b p (map as-entry o)) (map (λ o. map as-entry o) os)))
         ≡ count-pairs (also b o (keep (pairs-kept (C .np)) os)) + (one-if b + tally (pairs-kept (C .np)) os)
-    step true rec = omega (arith, rec (p + length (map as-entry o) + 1), map-length as-entry o)
+    step true rec = omega (arith, rec (p + length (map as-entry o) + 1), length-map o as-entry)
     step false rec = rec p ∙ omega arith
 
 pub nodes-meant : (C : Cut) → fault C ≡ 0 → nodes (meant C) ≡ node-count (sizes C)

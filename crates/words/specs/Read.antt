@@ -3,8 +3,8 @@ use mathlib.Core.List.{List}
 use mathlib.Core.Path.{_≡_, ap, _∙_}
 use Prim.Native.Nat.{ℕ, suc, _+_, _<_}
 use lib.Dec.{T}
-use lib.IntN.{ℤ, pos, negsuc, negℤ, sucℤ, _-ℤ_, -ℤ-one}
-use lib.ListN.{getD, set}
+use lib.IntN.{ℤ, pos, negsuc, negℤ, _-ℤ_, -ℤ-one}
+use lib.ListN.{getD}
 use lib.Signed.{nonNeg}
 use Rattle.rules.specs.Links.{link}
 use Rattle.rules.specs.Words.{word, quad}
@@ -26,10 +26,6 @@ Above t a = (k : ℕ) × (word t a ≡ pos (suc k))
 -- it is a number that can rise
 abbrev pub CanRise : List ℤ → ℕ → Type 0
 CanRise t a = Natural t a × (link t a < 2147483647)
-
--- the word at place k rises by one
-abbrev pub rise : List ℤ → ℕ → List ℤ
-rise t k = set t k (sucℤ (word t k))
 
 -- "The spacer after option m (from zero) holds -(m+1) as its top": the word at a is that of option r
 pub record Spacer (t : List ℤ) (a r : ℕ) : Type 0 where

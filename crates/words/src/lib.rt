@@ -3,14 +3,14 @@ ghost use mathlib.Core.Path.{_≡_};
 ghost use mathlib.Core.Bool.{not};
 ghost use Prim.Native.Nat.{_+_, _<_, _≤_};
 ghost use lib.Dec.{T};
-ghost use lib.IntN.{pos, negsuc};
+ghost use lib.IntN.{pos, negsuc, sucℤ};
 ghost use lib.ListN.{length, set};
 ghost use lib.Seq.{sets};
 ghost use lib.Signed.{leZ, ltZ, nonNeg};
 ghost use Rattle.rules.specs.Words.{word, below, same, signed, word-bytes};
 ghost use Rattle.rules.specs.Links.{fall};
 ghost use Rattle.rules.specs.Calls.{capped};
-ghost use Rattle.words.specs.Read.{Natural, Link, Above, CanRise, rise, Spacer, quad-at};
+ghost use Rattle.words.specs.Read.{Natural, Link, Above, CanRise, Spacer, quad-at};
 use rules::CAP;
 
 // ---- tests
@@ -142,7 +142,7 @@ pub fn lower_at(t: &mut [i32], a: usize)
 pub fn raise_at(t: &mut [i32], a: usize)
     requires { ⌜ a < length (now t) ⌝ }
     requires { ⌜ CanRise (now t) a ⌝ }
-    ensures { λ _. ⌜ now (t .exit) ≡ rise (now (t .entry)) a ⌝ }
+    ensures { λ _. ⌜ now (t .exit) ≡ set (now (t .entry)) a (sucℤ (word (now (t .entry)) a)) ⌝ }
 {
     let x = link_at(t, a);
     put_link(t, a, x + 1);
