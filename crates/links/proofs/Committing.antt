@@ -31,18 +31,28 @@ use Rattle.links.proofs.Bounds.{commit-few}
 
 -- ---- what the tests of a colour say
 
-pub shade-zero : (b : Bool) (k : ℕ) → same (shade b k) (pos 0) ≡ true → (b ≡ false) × (k ≡ 0)
+shade-zero : (b : Bool) (k : ℕ) → same (shade b k) (pos 0) ≡ true → (b ≡ false) × (k ≡ 0)
 shade-zero true k e = absurd (clash e refl)
 shade-zero false k e = (refl, eqb→eq k 0 (rw e tt))
 
-pub shade-positive : (b : Bool) (k : ℕ) → ltZ (pos 0) (shade b k) ≡ true → (b ≡ false) × (0 < k)
+shade-positive : (b : Bool) (k : ℕ) → ltZ (pos 0) (shade b k) ≡ true → (b ≡ false) × (0 < k)
 shade-positive true k e = absurd (clash e refl)
 shade-positive false k e = (refl, ltb→lt 0 k (rw e tt))
 
-pub shade-neither : (b : Bool) (k : ℕ) → same (shade b k) (pos 0) ≡ false → ltZ (pos 0) (shade b k) ≡ false → b ≡ true
+shade-neither : (b : Bool) (k : ℕ) → same (shade b k) (pos 0) ≡ false → ltZ (pos 0) (shade b k) ≡ false → b ≡ true
 shade-neither true k e f = refl
 shade-neither false zero e f = absurd (clash refl e)
 shade-neither false (suc k) e f = absurd (clash (lt-ltb 0 (suc k) (omega arith)) f)
+
+module _ {z : ℤ} (b : Bool) (k : ℕ) (w : z ≡ shade b k) where
+  pub tells-bare : {u : Bool} → u ≡ same z (pos 0) → u ≡ true → (b ≡ false) × (k ≡ 0)
+  tells-bare e h = shade-zero b k (ap (λ (y : ℤ). same y (pos 0)) (sym w) ∙ sym e ∙ h)
+
+  pub tells-coloured : {v : Bool} → v ≡ ltZ (pos 0) z → v ≡ true → (b ≡ false) × (0 < k)
+  tells-coloured e h = shade-positive b k (ap (ltZ (pos 0)) (sym w) ∙ sym e ∙ h)
+
+  pub tells-marked : {u v : Bool} → u ≡ same z (pos 0) → u ≡ false → v ≡ ltZ (pos 0) z → v ≡ false → b ≡ true
+  tells-marked e h f g = shade-neither b k (ap (λ (y : ℤ). same y (pos 0)) (sym w) ∙ sym e ∙ h) (ap (ltZ (pos 0)) (sym w) ∙ sym f ∙ g)
 
 -- ---- one node
 
@@ -56,7 +66,7 @@ module _ {P : Problem} {held : List Entry} {n : ℕ} {t₁ : List ℤ} {x : Node
   item-small : e .item < items P
   item-small = ranged G (C .option) (C .placed-in) e (nodes-at (C .option .first) (simple G (C .option) (C .placed-in)) (C .node-in) .1)
 
-  pub node-inside : p < nodes P
+  node-inside : p < nodes P
   node-inside =
       let a = nodes-range (C .option .first) (C .option .entries) (C .node-in) in
       let b = placed-range P (C .placed-in) in
@@ -73,8 +83,14 @@ module _ {P : Problem} {held : List Entry} {n : ℕ} {t₁ : List ℤ} {x : Node
     colour-in : (b : Bool) → marked P h (x .at) ≡ b → word t (colour-at (items P) p) ≡ shade b (e .colour)
     colour-in b m = ap (λ (k : ℕ). word t (colour-at (items P) k)) (C .is) ∙ named .colour-is ∙ ap (λ (a : Bool). shade a (e .colour)) m
 
-  pub colour-word : word t₁ (colour-at (items P) p) ≡ shade (has-item (e .item) held) (e .colour)
+  colour-word : word t₁ (colour-at (items P) p) ≡ shade (has-item (e .item) held) (e .colour)
   colour-word = colour-in held t₁ (C .shown .shows) (has-item (e .item) held) (C .marked-is)
+
+  pub commit-tells : word t₁ (colour-at n p) ≡ shade (has-item (e .item) held) (e .colour)
+  commit-tells = ap (λ (k : ℕ). word t₁ (colour-at k p)) (C .n-is) ∙ colour-word
+
+  pub commit-colour : colour-at n p < length t₁
+  commit-colour = omega (arith, C .n-is, node-inside, C .shown .shows .size)
 
   -- its item is held: nothing is done
   pub commit-none : has-item (e .item) held ≡ true → Done (items P) t₁ (commit-node P (has-item (e .item) held) held e) t₁ 0
@@ -133,19 +149,22 @@ module _ {P : Problem} {held : List Entry} {n : ℕ} {t₁ t : List ℤ} {x : No
   shows-after : has-item (d .item) held ≡ false → Shows P (d ∷ held) t
   shows-after b = rw (words false b) (touch-leads P (G C) held d (item-small C) (free C b) t₁ (C .shown .shows) .0)
 
-  pub colour-after : word t (colour-at (items P) p) ≡ shade (has-item (d .item) held) (d .colour)
+  colour-after : word t (colour-at (items P) p) ≡ shade (has-item (d .item) held) (d .colour)
   colour-after = go (has-item (d .item) held) refl
     where
       go : (b : Bool) → has-item (d .item) held ≡ b → word t (colour-at (items P) p) ≡ shade (has-item (d .item) held) (d .colour)
       go true b = ap (λ (z : List ℤ). word z (colour-at (items P) p)) (uncommit-none b) ∙ colour-word C
       go false b = colour-in C (d ∷ held) t (shows-after b) (has-item (d .item) held) (Q .still)
 
-  pub size-after : length t ≡ 2 * (items P + 2) + 4 * nodes P
-  size-after = go (has-item (d .item) held) refl
+  pub uncommit-tells : word t (colour-at n p) ≡ shade (has-item (d .item) held) (d .colour)
+  uncommit-tells = ap (λ (k : ℕ). word t (colour-at k p)) (C .n-is) ∙ colour-after
+
+  pub uncommit-colour : colour-at n p < length t
+  uncommit-colour = omega (arith, commit-colour C, long (has-item (d .item) held) refl)
     where
-      go : (b : Bool) → has-item (d .item) held ≡ b → length t ≡ 2 * (items P + 2) + 4 * nodes P
-      go true b = ap length (uncommit-none b) ∙ C .shown .shows .size
-      go false b = shows-after b .size
+      long : (b : Bool) → has-item (d .item) held ≡ b → length t ≡ length t₁
+      long true b = ap length (uncommit-none b)
+      long false b = shows-after b .size ∙ sym (C .shown .shows .size)
 
   module _ (b : has-item (d .item) held ≡ false) where
     pub covered : d .colour ≡ 0 → Covered P held n t₁ t (d .item) j

@@ -118,8 +118,11 @@ module _ {P : Problem} {held : List Entry} {n : ℕ} {t : List ℤ} {c : Choice}
   along-start = (omega arith, omega (arith, N .is, N .inside))
 
   module _ {q : ℕ} (A : Along q) where
-    pub along-inside : q < nodes P
+    along-inside : q < nodes P
     along-inside = let r = placed-range P (N .placed-in) in omega (arith, A .1, r .1)
+
+    pub along-test : top n q < length t
+    along-test = omega (arith, along-inside, N .n-is, node-size)
 
     spacer-word : q ≡ end-of (c .option) → word t (top (items P) q) ≡ negsuc (c .option .number)
     spacer-word e = ap (λ (k : ℕ). word t (top (items P) k)) e ∙ N .shown .shows .spaced (c .option) (N .placed-in) .number-is
@@ -129,30 +132,27 @@ module _ {P : Problem} {held : List Entry} {n : ℕ} {t : List ℤ} {c : Choice}
         let e : q ≡ c .option .first + (q - c .option .first) = omega (arith, A .0, N .is) in
         ap (λ (k : ℕ). nonNeg (word t (top (items P) k))) e ∙ ap nonNeg (top-at (q - c .option .first) (omega (arith, A .0, N .is)))
 
-    pub along-node : nonNeg (word t (top (items P) q)) ≡ true → Along (q + 1)
+    pub along-node : nonNeg (word t (top n q)) ≡ true → Along (q + 1)
     along-node b = go (decLt q (end-of (c .option)))
       where
         go : Dec (q < end-of (c .option)) → Along (q + 1)
         go (yes h) = (omega (arith, A .0), omega arith)
-        go (no h) = absurd (clash b (ap nonNeg (spacer-word (omega (arith, A .1)))))
+        go (no h) = absurd (clash (rw (← N .n-is) b) (ap nonNeg (spacer-word (omega (arith, A .1)))))
 
-    pub along-spacer : nonNeg (word t (top (items P) q)) ≡ false → word t (top (items P) q) ≡ negsuc (c .option .number)
-    along-spacer b = go (decLt q (end-of (c .option)))
+    pub along-spacer : nonNeg (word t (top n q)) ≡ false → word t (top n q) ≡ negsuc (c .option .number)
+    along-spacer b = ap (λ (k : ℕ). word t (top k q)) (N .n-is) ∙ go (decLt q (end-of (c .option)))
       where
         go : Dec (q < end-of (c .option)) → word t (top (items P) q) ≡ negsuc (c .option .number)
-        go (yes h) = absurd (clash (node-natural h) b)
+        go (yes h) = absurd (clash (node-natural h) (rw (← N .n-is) b))
         go (no h) = spacer-word (omega (arith, A .1))
 
   pub node-inside : x < nodes P
   node-inside = along-inside along-start
 
--- the number that the spacer at a, which is the place b, holds
-module _ (t : List ℤ) {a b m : ℕ} (e : a ≡ b) (w : word t b ≡ negsuc m) where
-  spacer-at : word t a ≡ negsuc m
-  spacer-at = ap (λ (k : ℕ). word t k) e ∙ w
-
+-- the number that the spacer at a holds
+module _ (t : List ℤ) (a : ℕ) {m : ℕ} (w : word t a ≡ negsuc m) where
   pub spacer-negative : T (not (nonNeg (word t a)))
-  spacer-negative = rw spacer-at tt
+  spacer-negative = rw w tt
 
   pub spacer-number : {r : ℕ} → Spacer t a r → r ≡ m
-  spacer-number S = let u = spacer-at in let v = S .word-is in cc
+  spacer-number S = let v = S .word-is in cc

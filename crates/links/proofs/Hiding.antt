@@ -3,7 +3,7 @@ use mathlib.Core.Path.{_≡_, refl, sym, ap, _∙_, subst}
 use mathlib.Core.Logic.{_⊎_, inl, inr, _≢_}
 use mathlib.Core.Bool.{Bool, true, false, not}
 use mathlib.Core.List.{List, [], _∷_, _++_, map, foldl, List·Memᴰ as Mem, List·Memᴰ·head as here, Memᴰ·append-right as in-right}
-use Prim.Native.Nat.{ℕ, zero, suc, _+_, _*_, _<_, _≤_}
+use Prim.Native.Nat.{ℕ, zero, suc, _+_, _<_, _≤_}
 use native.Mathlib.Omega.{arith}
 use lib.Dec.{T, T-not, eqb}
 use lib.IntN.{ℤ}
@@ -40,20 +40,31 @@ pub not-false : (b : Bool) → not b ≡ false → b ≡ true
 not-false true e = refl
 not-false false e = sym e
 
+-- what a test of the colour, which is not negative just if m is false, says of m
+module _ {x v : Bool} (m : Bool) (tells : x ≡ not m) (e : v ≡ x) where
+  pub unmarked : v ≡ true → m ≡ false
+  unmarked h = not-true m (sym tells ∙ sym e ∙ h)
+
+  pub marked : v ≡ false → m ≡ true
+  marked h = not-false m (sym tells ∙ sym e ∙ h)
+
 module _ {P : Problem} {W : View} {n : ℕ} {t : List ℤ} {x : Node} {q : ℕ} (A : OneNode P W n t x q) where
-  pub node-inside : q < nodes P
+  node-inside : q < nodes P
   node-inside =
       let a = nodes-range (A .option .first) (A .option .entries) (A .node-in) in
       let b = placed-range P (A .placed-in) in
       omega (arith, A .is)
 
+  pub node-colour : colour-at n q < length t
+  node-colour = omega (arith, A .n-is, node-inside, A .table .size)
+
   -- the colour tells whether the node is marked
-  colour-in : (W′ : View) (z : List ℤ) → Table P W′ z → nonNeg (word z (colour-at (items P) q)) ≡ not (W′ .marked q)
+  colour-in : (W′ : View) (z : List ℤ) → Table P W′ z → nonNeg (word z (colour-at n q)) ≡ not (W′ .marked q)
   colour-in W′ z S =
-      ap (λ (k : ℕ). nonNeg (word z (colour-at (items P) k))) (A .is) ∙ ap nonNeg (S .named (A .option) (A .placed-in) x (A .node-in) .colour-is)
+      ap (λ (k : ℕ). nonNeg (word z (colour-at k q))) (A .n-is) ∙ ap (λ (k : ℕ). nonNeg (word z (colour-at (items P) k))) (A .is) ∙ ap nonNeg (S .named (A .option) (A .placed-in) x (A .node-in) .colour-is)
       ∙ nonneg-shade (W′ .marked (x .at)) (x .entry .colour) ∙ ap (λ (k : ℕ). not (W′ .marked k)) (sym (A .is))
 
-  pub node-tells : nonNeg (word t (colour-at (items P) q)) ≡ not (W .marked q)
+  pub node-tells : nonNeg (word t (colour-at n q)) ≡ not (W .marked q)
   node-tells = colour-in W t (A .table)
 
   module _ (f : W .marked q ≡ false) where
@@ -110,17 +121,14 @@ module _ {P : Problem} {W : View} {n : ℕ} {t₁ t : List ℤ} {x : Node} {q : 
       go true e = ap length (words-now true e)
       go false e = gone e .size ∙ sym (A .table .size)
 
-  pub hidden-inside : q < nodes P
-  hidden-inside = node-inside A
+  pub hidden-colour : colour-at n q < length t
+  hidden-colour = omega (arith, hidden-long, node-colour A)
 
-  pub hidden-size : length t ≡ 2 * (items P + 2) + 4 * nodes P
-  hidden-size = hidden-long ∙ A .table .size
-
-  pub hidden-tells : nonNeg (word t (colour-at (items P) q)) ≡ not (W .marked q)
+  pub hidden-tells : nonNeg (word t (colour-at n q)) ≡ not (W .marked q)
   hidden-tells = go (W .marked q) refl
     where
-      go : (b : Bool) → W .marked q ≡ b → nonNeg (word t (colour-at (items P) q)) ≡ not (W .marked q)
-      go true e = ap (λ (z : List ℤ). nonNeg (word z (colour-at (items P) q))) (words-now true e) ∙ node-tells A
+      go : (b : Bool) → W .marked q ≡ b → nonNeg (word t (colour-at n q)) ≡ not (W .marked q)
+      go true e = ap (λ (z : List ℤ). nonNeg (word z (colour-at n q))) (words-now true e) ∙ node-tells A
       go false e = colour-in A (after W (unlink q)) t (gone e)
 
   module _ (f : W .marked q ≡ false) where
@@ -136,7 +144,7 @@ module _ {P : Problem} {W : View} {n : ℕ} {t₁ t : List ℤ} {x : Node} {q : 
           record {
             between = record {
               n-is = A .n-is;
-              size = hidden-size;
+              size = hidden-long ∙ A .table .size;
               item = hi;
               inside = B .in-table;
               top-is = w .2;

@@ -27,10 +27,6 @@ module _ (t : List ℤ) {a b k : ℕ} (e : a ≡ b) (w : word t b ≡ pos k) whe
   pub read : {r : ℕ} → Link t a r → r ≡ k
   read L = L .is ∙ ap nat word-at
 
--- what a test of the word at a says of the place b
-pub tells : (f : ℤ → Bool) (t : List ℤ) {a b : ℕ} {v u : Bool} → a ≡ b → v ≡ f (word t a) → v ≡ u → f (word t b) ≡ u
-tells f t e g h = ap (λ (k : ℕ). f (word t k)) (sym e) ∙ sym g ∙ h
-
 pub clash : {b : Bool} → b ≡ true → b ≡ false → ⊥
 clash e f = let z : _≡_ {A = ℕ} 0 1 = cc in omega arith
 

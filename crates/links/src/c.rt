@@ -1,16 +1,18 @@
 // `c.rs`: the nodes, and committing an option's entries with their colours.
 ghost use mathlib.Core.Path.{_≡_};
+ghost use mathlib.Core.Bool.{not};
 ghost use mathlib.Core.List.{List};
 ghost use Prim.Native.Nat.{ℕ, suc, _<_, _≤_};
-ghost use lib.IntN.{ℤ, pos};
+ghost use lib.Dec.{T};
+ghost use lib.IntN.{ℤ, pos, negsuc};
 ghost use lib.ListN.{length, set};
-ghost use lib.Signed.{ltZ};
-ghost use Rattle.rules.specs.Words.{word};
+ghost use lib.Signed.{ltZ, nonNeg};
+ghost use Rattle.rules.specs.Words.{word, same};
 ghost use Rattle.rules.specs.Problem.{Entry, Problem, items};
 ghost use Rattle.rules.specs.Order.{Choice, has-item, one-colour};
 ghost use Rattle.rules.specs.Links.{Node, first-or, own, met, touch, commit-node, try, unlink, fall, apply};
 ghost use Rattle.rules.specs.Links as Links;
-ghost use Rattle.words.specs.Read.{Link, Above, CanRise};
+ghost use Rattle.words.specs.Read.{Link, Above, CanRise, Spacer};
 ghost use Rattle.tables.specs.Shows.{view};
 ghost use Rattle.tables.specs.Undo.{undo, rise};
 ghost use Rattle.tables.specs.Views.{View};
@@ -48,6 +50,22 @@ fn is_node(t: &[i32], n: usize, q: usize) -> bool
     ensures { λ r. ⌜ r ≡ ltZ (pos 0) (word (now (t .entry)) (Links.top n q)) ⌝ }
 {
     is_positive(t, 2 * (n + 2) + 4 * q)
+}
+
+// Whether it has a top: the spacer after an option has the option's number instead.
+fn has_top(t: &[i32], n: usize, q: usize) -> bool
+    requires { ⌜ Links.top n q < length (now t) ⌝ }
+    ensures { λ r. ⌜ r ≡ nonNeg (word (now (t .entry)) (Links.top n q)) ⌝ }
+{
+    is_natural(t, 2 * (n + 2) + 4 * q)
+}
+
+fn number_of(t: &[i32], n: usize, q: usize) -> usize
+    requires { ⌜ Links.top n q < length (now t) ⌝ }
+    requires { ⌜ T (not (nonNeg (word (now t) (Links.top n q)))) ⌝ }
+    ensures { λ r. ⌜ Spacer (now (t .entry)) (Links.top n q) r ⌝ }
+{
+    option_at(t, 2 * (n + 2) + 4 * q)
 }
 
 // The list of a header is shorter, or longer, by one.
@@ -106,6 +124,50 @@ fn colour_of(t: &[i32], n: usize, q: usize) -> usize
     link_at(t, 2 * (n + 2) + 4 * q + 3)
 }
 
+fn set_colour(t: &mut [i32], n: usize, q: usize, c: usize)
+    requires { ⌜ Links.colour-at n q < length (now t) ⌝ }
+    requires { ⌜ c < 2147483648 ⌝ }
+    ensures { λ _. ⌜ now (t .exit) ≡ set (now (t .entry)) (Links.colour-at n q) (pos c) ⌝ }
+{
+    put_link(t, 2 * (n + 2) + 4 * q + 3, c);
+}
+
+fn mark_node(t: &mut [i32], n: usize, q: usize)
+    requires { ⌜ Links.colour-at n q < length (now t) ⌝ }
+    ensures { λ _. ⌜ now (t .exit) ≡ set (now (t .entry)) (Links.colour-at n q) (negsuc 0) ⌝ }
+{
+    mark(t, 2 * (n + 2) + 4 * q + 3);
+}
+
+// Whether it is not marked, has the colour c, has no colour, or has one.
+fn is_unmarked(t: &[i32], n: usize, q: usize) -> bool
+    requires { ⌜ Links.colour-at n q < length (now t) ⌝ }
+    ensures { λ r. ⌜ r ≡ nonNeg (word (now (t .entry)) (Links.colour-at n q)) ⌝ }
+{
+    is_natural(t, 2 * (n + 2) + 4 * q + 3)
+}
+
+fn has_colour(t: &[i32], n: usize, q: usize, c: usize) -> bool
+    requires { ⌜ Links.colour-at n q < length (now t) ⌝ }
+    ensures { λ r. ⌜ r ≡ same (word (now (t .entry)) (Links.colour-at n q)) (pos c) ⌝ }
+{
+    is_link(t, 2 * (n + 2) + 4 * q + 3, c)
+}
+
+fn is_bare(t: &[i32], n: usize, q: usize) -> bool
+    requires { ⌜ Links.colour-at n q < length (now t) ⌝ }
+    ensures { λ r. ⌜ r ≡ same (word (now (t .entry)) (Links.colour-at n q)) (pos 0) ⌝ }
+{
+    is_zero(t, 2 * (n + 2) + 4 * q + 3)
+}
+
+fn is_coloured(t: &[i32], n: usize, q: usize) -> bool
+    requires { ⌜ Links.colour-at n q < length (now t) ⌝ }
+    ensures { λ r. ⌜ r ≡ ltZ (pos 0) (word (now (t .entry)) (Links.colour-at n q)) ⌝ }
+{
+    is_positive(t, 2 * (n + 2) + 4 * q + 3)
+}
+
 // Where it stands: the header x of its item, and its neighbours u and d in its list.
 struct Stand {
     x: usize,
@@ -122,21 +184,6 @@ fn stand_of(t: &[i32], n: usize, q: usize) -> Stand
         u: up_of(t, n, q),
         d: down_of(t, n, q),
     }
-}
-
-// Where two of them stand.
-fn top_at(n: usize, q: usize) -> usize
-    requires { ⌜ Links.top n q < 9223372036854775808 ⌝ }
-    ensures { λ r. ⌜ r ≡ Links.top n q ⌝ }
-{
-    2 * (n + 2) + 4 * q
-}
-
-fn colour_at(n: usize, q: usize) -> usize
-    requires { ⌜ Links.colour-at n q < 9223372036854775808 ⌝ }
-    ensures { λ r. ⌜ r ≡ Links.colour-at n q ⌝ }
-{
-    2 * (n + 2) + 4 * q + 3
 }
 
 // The length of the list of the item whose header is i.
@@ -171,10 +218,10 @@ pub fn option_of(t: &[i32], n: usize, x: usize) -> usize
     ensures { λ r. ⌜ r < 2147483648 ⌝ }
 {
     let mut q = x;
-    while is_natural(t, top_at(n, q)) {
+    while has_top(t, n, q) {
         q += 1;
     }
-    option_at(t, top_at(n, q))
+    number_of(t, n, q)
 }
 
 // ---- hiding
@@ -207,7 +254,7 @@ fn hide_node(t: &mut [i32], n: usize, q: usize) -> u64
     ensures { λ r. ⌜ ((P : Problem) (W : View) (x : Node) → OneNode P W n (now (t .entry)) x q → Done (items P) (now (t .entry)) (unless (W .marked q) q) (now (t .exit)) r) ⌝ }
     ensures { λ r. ⌜ r ≤ 1 ⌝ }
 {
-    if !is_natural(t, colour_at(n, q)) {
+    if !is_unmarked(t, n, q) {
         return 0;
     }
     unlink_node(t, n, q);
@@ -219,7 +266,7 @@ fn unhide_node(t: &mut [i32], n: usize, q: usize)
     requires { ⌜ SomeOneHidden n (now t) q ⌝ }
     ensures { λ _. ⌜ ((P : Problem) (W : View) (t₁ : List ℤ) (x : Node) → OneHidden P W n t₁ (now (t .entry)) x q → now (t .exit) ≡ t₁) ⌝ }
 {
-    if is_natural(t, colour_at(n, q)) {
+    if is_unmarked(t, n, q) {
         relink_node(t, n, q);
     }
 }
@@ -266,8 +313,8 @@ fn purify_node(t: &mut [i32], n: usize, q: usize, c: usize) -> u64
     requires { ⌜ SomeMeeting n (now t) q c ⌝ }
     ensures { λ r. ⌜ ((P : Problem) (W : View) (held : List Entry) (e : Entry) (d : Choice) → Meeting P W n (now (t .entry)) held e d q c → Done (items P) (now (t .entry)) (met P (one-colour e (own d)) held d) (now (t .exit)) r) ⌝ }
 {
-    if is_link(t, colour_at(n, q), c) {
-        mark(t, colour_at(n, q));
+    if has_colour(t, n, q, c) {
+        mark_node(t, n, q);
         return 0;
     }
     hide(t, n, q)
@@ -279,10 +326,10 @@ fn unpurify_node(t: &mut [i32], n: usize, q: usize, c: usize)
     requires { ⌜ c < 2147483648 ⌝ }
     ensures { λ _. ⌜ ((P : Problem) (W : View) (t₁ : List ℤ) (held : List Entry) (e : Entry) (d : Choice) → Parting P W n t₁ (now (t .entry)) held e d q c → now (t .exit) ≡ t₁) ⌝ }
 {
-    if is_natural(t, colour_at(n, q)) {
+    if is_unmarked(t, n, q) {
         unhide(t, n, q);
     } else {
-        put_link(t, colour_at(n, q), c);
+        set_colour(t, n, q, c);
     }
 }
 
@@ -328,10 +375,10 @@ fn commit(t: &mut [i32], n: usize, p: usize, j: usize) -> u64
     requires { ⌜ SomeCommitNode n (now t) p j ⌝ }
     ensures { λ r. ⌜ ((P : Problem) (held : List Entry) (x : Node) → CanCommitNode P held n (now (t .entry)) x p j → Done (items P) (now (t .entry)) (commit-node P (has-item (x .entry .item) held) held (x .entry)) (now (t .exit)) r) ⌝ }
 {
-    if is_zero(t, colour_at(n, p)) {
+    if is_bare(t, n, p) {
         return cover(t, n, j);
     }
-    if is_positive(t, colour_at(n, p)) {
+    if is_coloured(t, n, p) {
         return purify(t, n, p);
     }
     0
@@ -342,11 +389,11 @@ fn uncommit(t: &mut [i32], n: usize, p: usize, j: usize)
     requires { ⌜ SomeCommittedNode n (now t) p j ⌝ }
     ensures { λ _. ⌜ ((P : Problem) (held : List Entry) (t₁ : List ℤ) (x : Node) → CommittedNode P held n t₁ (now (t .entry)) x p j → now (t .exit) ≡ t₁) ⌝ }
 {
-    if is_zero(t, colour_at(n, p)) {
+    if is_bare(t, n, p) {
         uncover(t, n, j);
         return;
     }
-    if is_positive(t, colour_at(n, p)) {
+    if is_coloured(t, n, p) {
         unpurify(t, n, p);
     }
 }
