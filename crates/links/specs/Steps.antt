@@ -24,13 +24,13 @@ HasLink t a = (a < length t) × Natural t a
 
 -- ---- one node
 
--- node q says that it stands in the list of the header x, between u and d
+-- the words of node q are x, the header of its item, and its neighbours u and d
 pub record Stands (n : ℕ) (t : List ℤ) (q x u d : ℕ) : Type 0 where
   pub top-is : Link t (top n q) x
   pub up-is : Link t (up n q) u
   pub down-is : Link t (down n q) d
 
--- that item is i, numbered from 0, and all three stand in the table
+-- node q of item i, numbered from 0, says that it stands between u and d
 pub record Between (P : Problem) (n : ℕ) (t : List ℤ) (i q u d : ℕ) : Type 0 where
   pub n-is : n ≡ items P
   pub size : length t ≡ 2 * (items P + 2) + 4 * nodes P
