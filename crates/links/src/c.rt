@@ -93,7 +93,7 @@ pub(crate) fn up_of(t: &[i32], n: usize, q: usize) -> usize
     link_at(t, 2 * (n + 2) + 4 * q + 1)
 }
 
-fn set_up(t: &mut [i32], n: usize, q: usize, x: usize)
+fn put_up(t: &mut [i32], n: usize, q: usize, x: usize)
     requires { ⌜ Links.up n q < length (now t) ⌝ }
     requires { ⌜ x < 2147483648 ⌝ }
     ensures { λ _. ⌜ now (t .exit) ≡ set (now (t .entry)) (Links.up n q) (pos x) ⌝ }
@@ -108,7 +108,7 @@ pub(crate) fn down_of(t: &[i32], n: usize, q: usize) -> usize
     link_at(t, 2 * (n + 2) + 4 * q + 2)
 }
 
-fn set_down(t: &mut [i32], n: usize, q: usize, x: usize)
+fn put_down(t: &mut [i32], n: usize, q: usize, x: usize)
     requires { ⌜ Links.down n q < length (now t) ⌝ }
     requires { ⌜ x < 2147483648 ⌝ }
     ensures { λ _. ⌜ now (t .exit) ≡ set (now (t .entry)) (Links.down n q) (pos x) ⌝ }
@@ -124,7 +124,7 @@ fn colour_of(t: &[i32], n: usize, q: usize) -> usize
     link_at(t, 2 * (n + 2) + 4 * q + 3)
 }
 
-fn set_colour(t: &mut [i32], n: usize, q: usize, c: usize)
+fn put_colour(t: &mut [i32], n: usize, q: usize, c: usize)
     requires { ⌜ Links.colour-at n q < length (now t) ⌝ }
     requires { ⌜ c < 2147483648 ⌝ }
     ensures { λ _. ⌜ now (t .exit) ≡ set (now (t .entry)) (Links.colour-at n q) (pos c) ⌝ }
@@ -232,8 +232,8 @@ fn unlink_node(t: &mut [i32], n: usize, q: usize)
     ensures { λ _. ⌜ now (t .exit) ≡ apply n (now (t .entry)) (unlink q) ⌝ }
 {
     let s = stand_of(t, n, q);
-    set_down(t, n, s.u, s.d);
-    set_up(t, n, s.d, s.u);
+    put_down(t, n, s.u, s.d);
+    put_up(t, n, s.d, s.u);
     lower_len(t, n, s.x);
 }
 
@@ -243,8 +243,8 @@ fn relink_node(t: &mut [i32], n: usize, q: usize)
     ensures { λ _. ⌜ now (t .exit) ≡ undo n (now (t .entry)) (unlink q) ⌝ }
 {
     let s = stand_of(t, n, q);
-    set_down(t, n, s.u, q);
-    set_up(t, n, s.d, q);
+    put_down(t, n, s.u, q);
+    put_up(t, n, s.d, q);
     raise_len(t, n, s.x);
 }
 
@@ -329,7 +329,7 @@ fn unpurify_node(t: &mut [i32], n: usize, q: usize, c: usize)
     if is_unmarked(t, n, q) {
         unhide(t, n, q);
     } else {
-        set_colour(t, n, q, c);
+        put_colour(t, n, q, c);
     }
 }
 

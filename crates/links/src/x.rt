@@ -35,7 +35,7 @@ fn right_of(t: &[i32], i: usize) -> usize
     link_at(t, 2 * i + 1)
 }
 
-fn set_left(t: &mut [i32], i: usize, x: usize)
+fn put_left(t: &mut [i32], i: usize, x: usize)
     requires { ⌜ left i < length (now t) ⌝ }
     requires { ⌜ x < 2147483648 ⌝ }
     ensures { λ _. ⌜ now (t .exit) ≡ set (now (t .entry)) (left i) (pos x) ⌝ }
@@ -43,7 +43,7 @@ fn set_left(t: &mut [i32], i: usize, x: usize)
     put_link(t, 2 * i, x);
 }
 
-fn set_right(t: &mut [i32], i: usize, x: usize)
+fn put_right(t: &mut [i32], i: usize, x: usize)
     requires { ⌜ right i < length (now t) ⌝ }
     requires { ⌜ x < 2147483648 ⌝ }
     ensures { λ _. ⌜ now (t .exit) ≡ set (now (t .entry)) (right i) (pos x) ⌝ }
@@ -68,8 +68,8 @@ fn unlink_item(t: &mut [i32], i: usize)
 {
     let l = left_of(t, i);
     let r = right_of(t, i);
-    set_right(t, l, r);
-    set_left(t, r, l);
+    put_right(t, l, r);
+    put_left(t, r, l);
 }
 
 // The item whose header is i comes back to its ring: its own links still say where it stood.
@@ -79,8 +79,8 @@ fn relink_item(t: &mut [i32], i: usize)
 {
     let l = left_of(t, i);
     let r = right_of(t, i);
-    set_right(t, l, i);
-    set_left(t, r, i);
+    put_right(t, l, i);
+    put_left(t, r, i);
 }
 
 // Covers the item whose header is i. The result is the number of updates. `left` counts the nodes that are still to be met, for the proof

@@ -8,22 +8,22 @@ use Rattle.links.proofs.c.relink_node.Tie as tie
 stand-of-requires : tie.Need-stand-of-requires
 stand-of-requires c κs = has-stand (c .before .pre .4 .between)
 
-set-down-requires : tie.Need-set-down-requires
-set-down-requires c κs =
+put-down-requires : tie.Need-put-down-requires
+put-down-requires c κs =
     let R = c .before .before .before .pre .4 in
     (down-inside (R .between) (c .before .stand-of .ensures), node-small R)
 
-set-up-requires : tie.Need-set-up-requires
-set-up-requires c κs =
+put-up-requires : tie.Need-put-up-requires
+put-up-requires c κs =
     let d = c .before .before .before .before in
     let R = d .before .before .pre .4 in
-    (omega (arith, up-inside (R .between) (d .stand-of .ensures), c .before .before .set-down .kept .0), node-small R)
+    (omega (arith, up-inside (R .between) (d .stand-of .ensures), c .before .before .put-down .kept .0), node-small R)
 
 raise-len-requires : tie.Need-raise-len-requires
 raise-len-requires c κs =
     let d = c .before .before .before .before .before .before .before in
     let R = d .before .before .pre .4 in
-    can-raise (R .between) (d .stand-of .ensures) _ _ (c .before .before .before .before .before .set-down .ensures) (c .before .before .set-up .ensures) (R .count-is)
+    can-raise (R .between) (d .stand-of .ensures) _ _ (c .before .before .before .before .before .put-down .ensures) (c .before .before .put-up .ensures) (R .count-is)
     (R .room)
 
 same-length : tie.Need-same-length
@@ -32,8 +32,8 @@ same-length c = search needs
 returns : tie.Need-returns
 returns c =
     let d = c .before .before .before .before .before .before .before .before .before in
-    relink-done (d .before .before .pre .4 .between) (d .stand-of .ensures) (c .before .before .before .before .before .before .before .set-down .ensures)
-    (c .before .before .before .before .set-up .ensures) (c .before .raise-len .ensures)
+    relink-done (d .before .before .pre .4 .between) (d .stand-of .ensures) (c .before .before .before .before .before .before .before .put-down .ensures)
+    (c .before .before .before .before .put-up .ensures) (c .before .raise-len .ensures)
 
 pub relink-node-spec : {M : Type 1} → statement M
-relink-node-spec = tie.close (tie.spec stand-of-requires set-down-requires set-up-requires raise-len-requires same-length returns)
+relink-node-spec = tie.close (tie.spec stand-of-requires put-down-requires put-up-requires raise-len-requires same-length returns)

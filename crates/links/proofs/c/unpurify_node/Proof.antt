@@ -13,8 +13,8 @@ unhide-requires c κs =
     let M = c .before .before .before .before .pre .0 .6 in
     (_, _, _, _, _, parting-hidden M (unmarked _ (parting-test M) (c .before .before .is-unmarked .ensures) (c .before .if1 .taken)))
 
-set-colour-requires : tie.Need-set-colour-requires
-set-colour-requires c κs = (parting-colour (c .before .before .before .before .pre .0 .6), c .before .before .before .before .pre .1)
+put-colour-requires : tie.Need-put-colour-requires
+put-colour-requires c κs = (parting-colour (c .before .before .before .before .pre .0 .6), c .before .before .before .before .pre .1)
 
 same-length : tie.Need-same-length
 same-length c = search needs
@@ -30,7 +30,7 @@ same-length-2 c = search needs
 returns-2 : tie.Need-returns-2
 returns-2 c =
     λ P W t₁ held e x M. unmarks M (marked _ (parting-test M) (c .before .before .before .before .is-unmarked .ensures) (c .before .before .before .if1 .left))
-    (c .before .set-colour .ensures)
+    (c .before .put-colour .ensures)
 
 pub unpurify-node-spec : {M : Type 1} → statement M
-unpurify-node-spec = tie.close (tie.spec is-unmarked-requires unhide-requires set-colour-requires same-length returns same-length-2 returns-2)
+unpurify-node-spec = tie.close (tie.spec is-unmarked-requires unhide-requires put-colour-requires same-length returns same-length-2 returns-2)

@@ -11,21 +11,21 @@ left-of-requires c κs = has-left (c .before .pre .4)
 right-of-requires : tie.Need-right-of-requires
 right-of-requires c κs = has-right (c .before .before .before .pre .4)
 
-set-right-requires : tie.Need-set-right-requires
-set-right-requires c κs = (
+put-right-requires : tie.Need-put-right-requires
+put-right-requires c κs = (
   right-inside (c .before .before .before .before .before .pre .4) (c .before .before .before .left-of .ensures)
       (c .before .right-of .ensures),
   c .before .right-of .ensures .small,
 )
 
-set-left-requires : tie.Need-set-left-requires
-set-left-requires c κs = (
+put-left-requires : tie.Need-put-left-requires
+put-left-requires c κs = (
   omega (
     arith,
     left-inside (c .before .before .before .before .before .before .before .before .pre .4)
         (c .before .before .before .before .before .before .left-of .ensures)
         (c .before .before .before .before .right-of .ensures),
-    c .before .before .set-right .kept .0,
+    c .before .before .put-right .kept .0,
   ),
   c .before .before .before .before .before .before .left-of .ensures .small,
 )
@@ -37,7 +37,7 @@ returns : tie.Need-returns
 returns c =
     λ n j e. remove-done (c .before .before .before .before .before .before .before .before .before .before .pre .4)
     (c .before .before .before .before .before .before .before .before .left-of .ensures) (c .before .before .before .before .before .before .right-of .ensures) n j e
-    (c .before .before .before .before .set-right .ensures) (c .before .set-left .ensures)
+    (c .before .before .before .before .put-right .ensures) (c .before .put-left .ensures)
 
 pub unlink-item-spec : {M : Type 1} → statement M
-unlink-item-spec = tie.close (tie.spec left-of-requires right-of-requires set-right-requires set-left-requires same-length returns)
+unlink-item-spec = tie.close (tie.spec left-of-requires right-of-requires put-right-requires put-left-requires same-length returns)
