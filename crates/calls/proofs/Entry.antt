@@ -16,7 +16,7 @@ use Rattle.rules.specs.declared.Verdict.the-variants.{Refused, Sized}
 use Rattle.rules.specs.Problem.{library-limits, cut, sizes, judged, problem-refusal}
 use Rattle.rules.specs.Walk.{Level}
 use Rattle.rules.specs.Calls.{counts-fit, lent-point, SetUpLent, set-up-room}
-use Rattle.problem.specs.Measured.{judged-sized, judged-refused, table-small}
+use Rattle.problem.specs.Measured.{judged-sized, judged-refused, table-bounds}
 use Rattle.problem.specs.Room.{room, served, served-all, Accepted, accepted}
 use Rattle.calls.specs.Tested.{Laid, refusal, Tested}
 use Rattle.calls.proofs.Outcomes.{set-up-refusal}
@@ -48,7 +48,7 @@ module _ (ws : List ℤ) (l : SetUpLent) {L : Limits} {a : ℕ} {v : Verdict} (p
         record {
           measured = A .measures;
           faultless = A .faultless;
-          small = (table-small (A .bounds), omega (arith, A .bounds .few-options));
+          small = (omega (arith, table-bounds (A .bounds) .0), omega (arith, table-bounds (A .bounds) .1));
           table-room = r;
           path-room = omega arith;
         },

@@ -17,7 +17,7 @@ use Rattle.rules.specs.Order.{pick}
 use Rattle.rules.specs.Links.{fresh}
 use Rattle.rules.specs.Calls.{counts-fit, point, lent-point, search-refusal}
 use Rattle.tables.specs.Sizes.{fresh-size}
-use Rattle.problem.specs.Measured.{Measured, judged-sized, judged-refused, table-small}
+use Rattle.problem.specs.Measured.{Measured, judged-sized, judged-refused, table-bounds}
 use Rattle.problem.specs.Room.{room, served, served-all, Accepted, accepted}
 use Rattle.calls.specs.Tested.{Laid, last-refusal, Pointed, refusal, Tested}
 use Rattle.calls.proofs.Rooms.{room-parts}
@@ -107,7 +107,7 @@ laid ws table spare path more s A =
       record {
         measured = A .measures;
         faultless = A .faultless;
-        small = (table-small (A .bounds), omega (arith, A .bounds .few-options));
+        small = (omega (arith, table-bounds (A .bounds) .0), omega (arith, table-bounds (A .bounds) .1));
         table-room = omega arith;
         path-room = omega arith;
       },

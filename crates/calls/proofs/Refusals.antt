@@ -78,10 +78,6 @@ module _ (L : Limits) (room : Sizes → Bool) (ws : List ℤ) (fit : Bool) (at :
   at-problem k e h = (rw e (first-some k _ h), omega (arith, problem-most L 1 room ws))
 
   module _ (e : problem-refusal L 1 room ws ≡ 0) where
-    pub at-counts : fit ≡ false → search-refusal L room ws fit at ≡ 11
-    unfolding search-refusal
-    at-counts f = rw (e, f)
-
     module _ (f : fit ≡ true) where
       pub at-point : got at ≡ false → search-refusal L room ws fit at ≡ 10
       unfolding search-refusal

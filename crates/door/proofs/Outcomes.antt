@@ -25,7 +25,7 @@ use Rattle.rules.specs.Walk.{Walk, End, solution, exhausted, paused, numbers}
 use Rattle.rules.specs.Calls.{moved, next-answer, next-said, end-number}
 use Rattle.rules.specs.Door.{DoorOutcome, walk-to, door-room, door-refusal, door-out, door-walked, door-as, door-call}
 use Rattle.words.specs.Read.{Natural}
-use Rattle.problem.specs.Measured.{Within, within, table-bound, judged-sized, judged-refused, first-some}
+use Rattle.problem.specs.Measured.{Within, within, table-bounds, judged-sized, judged-refused, first-some}
 use Rattle.problem.specs.Room.{room, served, served-all, Accepted, accepted}
 use Rattle.laws.specs.Reached.{in-order-length}
 use Rattle.search.specs.Points.{On}
@@ -59,7 +59,7 @@ module _ (ws : List ℤ) (out : List ℕ) where
   rooms : cut-refusal door-limits 1 ws ≡ 0 → room 1676 (lists-of (length out)) (sizes (cut ws)) ≡ door-room out (sizes (cut ws))
   rooms e =
       let W = bounded e in
-      ap (λ (b : Bool). b && leb (sizes (cut ws) .np) (lists-of (length out))) (le-leb (table-length (sizes (cut ws))) 1676 (omega (arith, table-bound W)))
+      ap (λ (b : Bool). b && leb (sizes (cut ws) .np) (lists-of (length out))) (le-leb (table-length (sizes (cut ws))) 1676 (omega (arith, table-bounds W .0)))
       ∙ lists-same (sizes (cut ws) .np) (length out) (W .some-np)
 
   same-refusal : problem-refusal door-limits 1 (room 1676 (lists-of (length out))) ws ≡ refusal

@@ -11,7 +11,7 @@ use Prim.Native.Nat.{ℕ, _+_, _≤_, _<_}
 use lib.IntN.{ℤ, pos}
 use lib.ListN.{length, take}
 use Rattle.rules.specs.declared.Phase.{Phase}
-use Rattle.rules.specs.declared.Phase.the-variants.{Ready, Solution, Done}
+use Rattle.rules.specs.declared.Phase.the-variants.{Ready, Done}
 use Rattle.rules.specs.declared.State.{State}
 use Rattle.rules.specs.declared.Limits.{Limits}
 use Rattle.rules.specs.declared.Sizes.{Sizes}

@@ -149,6 +149,7 @@ fn is_unmarked(t: &[i32], n: usize, q: usize) -> bool
 
 fn has_colour(t: &[i32], n: usize, q: usize, c: usize) -> bool
     requires { ⌜ Links.colour-at n q < length (now t) ⌝ }
+    requires { ⌜ c < 2147483648 ⌝ }
     ensures { λ r. ⌜ r ≡ same (word (now (t .entry)) (Links.colour-at n q)) (pos c) ⌝ }
 {
     is_link(t, 2 * (n + 2) + 4 * q + 3, c)
@@ -311,6 +312,7 @@ pub(crate) fn unhide(t: &mut [i32], n: usize, p: usize)
 // number of updates.
 fn purify_node(t: &mut [i32], n: usize, q: usize, c: usize) -> u64
     requires { ⌜ SomeMeeting n (now t) q c ⌝ }
+    requires { ⌜ c < 2147483648 ⌝ }
     ensures { λ r. ⌜ ((P : Problem) (W : View) (held : List Entry) (e : Entry) (d : Choice) → Meeting P W n (now (t .entry)) held e d q c → Done (items P) (now (t .entry)) (met P (one-colour e (own d)) held d) (now (t .exit)) r) ⌝ }
 {
     if has_colour(t, n, q, c) {

@@ -10,7 +10,7 @@ use lib.ListN.{length, drop, length-drop}
 use lib.Signed.{leZ, nonNeg}
 use mir.Facts.{and-yes}
 use Rattle.rules.specs.Lists.{also, keep, tally, one-if, got, or-none}
-use Rattle.rules.specs.Problem.{Pair, library-limits, need, first-of, judged, cut-refusal, problem-refusal, verdict, parts, cut, sizes, fault, options-fault, count-pairs, pairs-kept, node-count, table-length}
+use Rattle.rules.specs.Problem.{Pair, need, first-of, judged, cut-refusal, problem-refusal, verdict, parts, cut, sizes, fault, options-fault, count-pairs, pairs-kept, node-count, table-length}
 use Rattle.rules.specs.Words.{word, nat}
 use Rattle.rules.specs.declared.Limits.{Limits}
 use Rattle.rules.specs.declared.Sizes.{Sizes}
@@ -55,10 +55,6 @@ module _ (ws : List ℤ) (s : Sizes) (M : Measured ws s) where
   pub cut-is : cut ws ≡ record { np = s .np; ns = s .ns; options = options-at ws 3 (s .options) }
   unfolding cut parts
   cut-is = rw (np-is, ns-is, options-is)
-
-  pub kept-is : s .kept ≡ tally (pairs-kept (s .np)) (options-at ws 3 (s .options))
-  unfolding sizes
-  kept-is = ap (λ (x : Sizes). x .kept) (M .are ∙ ap sizes cut-is)
 
   pub entries-is : s .entries ≡ count-pairs (keep (pairs-kept (s .np)) (options-at ws 3 (s .options)))
   unfolding sizes
@@ -177,13 +173,10 @@ module _ (L : Limits) (least : ℕ) (ws : List ℤ) where
 
 -- ---- the numbers that the limits bound
 
-module _ {L : Limits} {least : ℕ} {s : Sizes} (W : Within L least s) where
-  pub node-bound : node-count s ≤ L .items + 2 + L .entries + L .options
-  node-bound = omega arith
+-- the words of the longest table within the limits
+abbrev pub most-words : Limits → ℕ
+most-words L = 2 * (L .items + 2) + 4 * (L .items + 2 + L .entries + L .options)
 
-  pub table-bound : table-length s ≤ 2 * (L .items + 2) + 4 * (L .items + 2 + L .entries + L .options)
-  table-bound = omega arith
-
--- every place and every node's number fits a word
-pub table-small : {least : ℕ} {s : Sizes} → Within library-limits least s → table-length s < 2147483648
-table-small W = omega (arith, table-bound W)
+-- The table is no longer than that; so where a word can number that many places, it can number a table's places, its nodes and the options.
+pub table-bounds : {L : Limits} {least : ℕ} {s : Sizes} → Within L least s → (table-length s ≤ most-words L) × (s .options ≤ most-words L)
+table-bounds W = (omega arith, omega arith)

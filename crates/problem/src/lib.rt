@@ -55,7 +55,7 @@ fn count_at(ws: &[i32], at: usize) -> Count
         return Count::Missing;
     }
     let k = link_at(ws, at);
-    if 2 * k <= ws.len() - at - 1 {
+    if k <= (ws.len() - at - 1) / 2 {
         return Count::Of(k);
     }
     Count::Missing

@@ -1,5 +1,5 @@
 // A line's operands: decimal numbers, each after one space.
-ghost use Prim.Native.Nat.{_≤_, _<_};
+ghost use Prim.Native.Nat.{_<_};
 ghost use lib.ListN.{length};
 ghost use Rattle.replay.specs.Bounds.{AtMost, GoesOn};
 use bytes::scan::find;

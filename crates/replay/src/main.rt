@@ -9,7 +9,7 @@ mod settings;
 ghost use Prim.Native.Nat.{_≤_};
 ghost use lib.ListN.{length};
 ghost use mathlib.Core.Path.{_≡_};
-ghost use Rattle.replay.specs.Bounds.{Buffer, HeldWithin, Lists, StepWithin};
+ghost use Rattle.replay.specs.Bounds.{HeldWithin, Lists, StepWithin};
 use bytes::scan::find;
 use commands::Done;
 use held::Held;

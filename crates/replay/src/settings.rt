@@ -11,6 +11,7 @@ use crate::line::number_at;
 use crate::line::word_at;
 use rules::Phase;
 use rules::State;
+use words::put_link;
 
 pub enum Count {
     Are(usize),
@@ -167,7 +168,7 @@ fn fill_words(list: &mut [i32])
 {
     let mut i = 0;
     while i < list.len() {
-        list[i] = 7;
+        put_link(list, i, 7);
         i += 1;
     }
 }

@@ -1,7 +1,6 @@
 // The types that every other crate shares, and document 01's limits.
 ghost use mathlib.Core.Path.{_≡_};
 ghost use Rattle.rules.specs.Problem.{library-limits, door-limits};
-ghost use Rattle.rules.specs.Calls.{cap};
 
 // Ready to visit the point that the path leads to, at a solution there, or done with the search.
 pub enum Phase {
@@ -90,10 +89,4 @@ pub fn door() -> Limits
         options: DOOR_OPTIONS,
         entries: DOOR_ENTRIES,
     }
-}
-
-pub fn most() -> u64
-    ensures { λ r. ⌜ r ≡ cap ⌝ }
-{
-    CAP
 }

@@ -1,5 +1,5 @@
--- Going back: a level undone, and the following choice of its item.
-use mathlib.Core.Path.{_≡_, refl, sym, ap, _∙_}
+-- A level as a cover and then a commit.
+use mathlib.Core.Path.{_≡_, refl, ap, _∙_}
 use mathlib.Core.Bool.{not}
 use mathlib.Core.List.{List, _∷_, _++_, map, foldl, List·Memᴰ as Mem}
 use Prim.Native.Nat.{ℕ, _+_, _<_}
@@ -10,10 +10,8 @@ use Rattle.rules.specs.Order.{has-item, Choice, node}
 use Rattle.rules.specs.Links.{own, linked, touch, try, choose, held, events, fresh, table, apply}
 use Rattle.laws.specs.Faults.{Good}
 use Rattle.tables.specs.Fresh.{fresh-shows}
-use Rattle.tables.specs.Met.{bare-own}
 use Rattle.tables.specs.Nodes.{Of, linked-of}
-use Rattle.tables.specs.Shows.{Shows, view, since-now, touch-leads, try-leads, events-leads, point-shows, one-entry, Played}
-use Rattle.tables.specs.Undo.{undo-all}
+use Rattle.tables.specs.Shows.{Shows, view, since-now, touch-leads, point-shows, Played}
 use Rattle.tables.specs.Views.{foldl-append}
 
 -- the table where the entry's item is covered or purified
@@ -31,11 +29,6 @@ table-try P c cs =
 pub covered-list : (P : Problem) (h : List Entry) (e : Entry) → T (not (has-item (e .item) h)) → view P (e ∷ h) .list (e .item) ≡ map node (linked P h (e .item))
 covered-list P h e fr = ap (λ (s : List Entry). map node (linked P s (e .item))) (since-now (e .item) e h fr refl)
 
--- all choices of a primary item cover it with one entry
-pub one-cover : (P : Problem) → Good P → (h : List Entry) (i : ℕ) → i < P .np → {c c′ : Choice} → Mem c (linked P h i) → Mem c′ (linked P h i) → own c ≡ own c′
-one-cover P G h i hi {c} {c′} m m′ =
-    one-entry (own c) (own c′) (bare-own P G h i hi m ∙ sym (bare-own P G h i hi m′)) (linked-of P h i m .own-item ∙ sym (linked-of P h i m′ .own-item))
-
 module _ (P : Problem) (G : Good P) {cs : List Choice} (p : Played P cs) (i : ℕ) (small : i < items P) (fr : T (not (has-item i (held cs)))) {c : Choice} (mc : Mem c (linked P (held cs) i)) where
   here-shows : Shows P (held cs) (table P cs)
   here-shows = point-shows P G (fresh-shows P G) p
@@ -46,16 +39,3 @@ module _ (P : Problem) (G : Good P) {cs : List Choice} (p : Played P cs) (i : �
   -- the item covered
   pub touched-shows : Shows P (own c ∷ held cs) (touched P cs (own c))
   touched-shows = touch-leads P G (held cs) (own c) (rw (F .own-item) small) (rw (F .own-item) fr) (table P cs) here-shows .0
-
-  -- the option uncommitted
-  pub try-undone : undo-all (items P) (table P (c ∷ cs)) (try P (held cs) c) ≡ touched P cs (own c)
-  try-undone = rw (table-try P c cs) (try-leads P G (held cs) i c mc (touched P cs (own c)) touched-shows .1)
-
-  -- and the item uncovered: the point above, word for word
-  pub cover-undone : undo-all (items P) (touched P cs (own c)) (touch P (held cs) (own c)) ≡ table P cs
-  cover-undone = touch-leads P G (held cs) (own c) (rw (F .own-item) small) (rw (F .own-item) fr) (table P cs) here-shows .1
-
--- all choices undone: the fresh table
-pub events-undone : (P : Problem) → Good P → {cs : List Choice} → Played P cs → undo-all (items P) (table P cs) (events P cs) ≡ fresh P
-unfolding table
-events-undone P G p = events-leads P G p (fresh P) (fresh-shows P G) .1

@@ -23,7 +23,7 @@ use Rattle.tables.specs.Ring.{Linked}
 use Rattle.tables.specs.Shows.{Shows, view, since, since-unheld, marked, marked-held, held-marked, fold-list, fold-marked, fit-apart, touch-fit}
 use Rattle.tables.specs.Touch.{unlinks, marks, unlinks-mem, marks-mem, touch-done, At, met-at, linked-apart, linked-stands, unstruck}
 use Rattle.tables.specs.Views.{View, after, Table, Fits, Fit, fit-split, run-table, shade}
-use borrow.Author.Tests.{eq-eqb, ne-eqb}
+use borrow.Author.Tests.{eq-eqb}
 
 -- ---- a place in a list: after xs and before zs
 
@@ -222,14 +222,6 @@ module _ (P : Problem) (G : Good P) (held : List Entry) (e : Entry) (small : e .
       go : (b : Bool) → foldl after (walked P held e xs) (met P b held c) .marked (node c) ≡ b
       go true = rw (eq-eqb (node c) (node c) refl)
       go false = hide-marked P (walked P held e xs) held c (node c) ∙ not-so (walked P held e xs .marked (node c)) own-unmarked
-
-  -- as the others' marks do
-  pub others-marked : {x : Node} → Mem x (others c) → foldl after (walked P held e xs) (met P (one-colour e (own c)) held c) .marked (x .at) ≡ has-item (x .entry .item) held
-  others-marked {x} m = go (one-colour e (own c))
-    where
-      go : (b : Bool) → foldl after (walked P held e xs) (met P b held c) .marked (x .at) ≡ has-item (x .entry .item) held
-      go true = rw (ne-eqb (node c) (x .at) (λ z. others-other c m (sym z))) (marked-now (others-mem c m))
-      go false = hide-marked P (walked P held e xs) held c (x .at) ∙ marked-now (others-mem c m)
 
 -- ---- a chosen option, while it is committed
 

@@ -1,9 +1,6 @@
 -- The table of a point that the search reaches shows what is chosen there.
 use mathlib.Core.Path.{_≡_, refl, ap}
-use mathlib.Core.Option.{some}
 use mathlib.Core.List.{List, [], _∷_, map, List·Memᴰ as Mem, List·Memᴰ·head as here, Memᴰ·append-right as in-right}
-use lib.IntN.{ℤ}
-use Rattle.rules.specs.declared.State.{State}
 use Rattle.rules.specs.Problem.{Problem}
 use Rattle.rules.specs.Order.{Placed, Rule, choices, open-options, open-items}
 use Rattle.rules.specs.Links.{held, table}
@@ -11,7 +8,7 @@ use Rattle.rules.specs.Walk.{Level, made, chosen}
 use Rattle.rules.specs.Calls.{point}
 use Rattle.laws.specs.Order.{Sound}
 use Rattle.laws.specs.Faults.{Good}
-use Rattle.laws.specs.Reached.{Reached, root, level, point-reached}
+use Rattle.laws.specs.Reached.{Reached, root, level}
 use Rattle.tables.specs.Fresh.{fresh-shows}
 use Rattle.tables.specs.Points.{go-on}
 use Rattle.tables.specs.Shows.{Shows, Played, none-yet, point-shows}
@@ -30,7 +27,3 @@ module _ (P : Problem) (rule : Rule) (S : Sound P rule) (G : Good P) where
 
   pub reached-shows : {s : List Level} → Reached P rule s → Shows P (held (made s)) (table P (made s))
   reached-shows r = point-shows P G (fresh-shows P G) (reached-played r)
-
-  -- so words that pass the test for 10 show what holds at their point
-  pub point-words : (st : State) (t path : List ℤ) {s : List Level} → point P rule st t path ≡ some s → Shows P (held (made s)) t
-  point-words st t path e = let r = point-reached P rule st t path e in rw (r .1) (reached-shows (r .0))

@@ -13,7 +13,6 @@ use Rattle.rules.specs.Lists.{keep}
 use Rattle.laws.specs.Lists.{keep-mem, keep-in}
 use Rattle.laws.specs.Order.{ne→neqb}
 use Rattle.tables.specs.Ring.{Linked, Free, Distinct, leave}
-use Rattle.tables.specs.Ring as Ring
 
 -- the list without q
 abbrev pub without : ℕ → List ℕ → List ℕ

@@ -487,14 +487,6 @@ pub foldl-append : {A B : Type 0} (f : A → B → A) (a : A) (xs ys : List B) �
 foldl-append f a [] ys = refl
 foldl-append f a (x ∷ xs) ys = foldl-append f (f a x) xs ys
 
--- the last of many events undone
-pub back-undone : (P : Problem) → Good P → (W : View) (t : List ℤ) (xs ys : List Event) → Table P W t → Fit P W (xs ++ ys)
-    → undo-all (items P) (foldl (apply (items P)) t (xs ++ ys)) ys ≡ foldl (apply (items P)) t xs
-back-undone P G W t xs ys S f =
-    let g = fit-split P W xs ys f in
-    rw (foldl-append (apply (items P)) t xs ys)
-    (run-undone P G (foldl after W xs) (foldl (apply (items P)) t xs) ys (run-table P G W t xs S (g .0)) (g .1))
-
 -- ---- views that say the same
 
 pub record Same (P : Problem) (W W′ : View) : Type 0 where

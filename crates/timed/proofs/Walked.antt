@@ -22,7 +22,7 @@ use Rattle.rules.specs.Walk.{Walk, End, solution, exhausted, paused, made}
 use Rattle.rules.specs.Calls.{profile-from, path-words, end-number, next-answer, next-said, SetUpLent, SetUpOutcome, set-up-room, set-up-said, set-up-as, set-up-call}
 use Rattle.rules.specs.Door.{walk-to}
 use Rattle.tables.specs.Sizes.{fresh-size}
-use Rattle.problem.specs.Measured.{measured, refused-refusal, refused-some, table-small}
+use Rattle.problem.specs.Measured.{measured, refused-refusal, refused-some, table-bounds}
 use Rattle.problem.specs.Room.{Accepted, accepted}
 use Rattle.search.specs.Points.{On, Profile}
 use Rattle.search.specs.Meant.{np-meant, top-words, top-on, top-profile}
@@ -89,7 +89,7 @@ module _ (ws : List ℤ) (l : SetUpLent) where
             rw (laid .1) (record {
               measures = M;
               faultless = A .faultless;
-              small = table-small (A .bounds);
+              small = omega (arith, table-bounds (A .bounds) .0);
               table-room = t .0;
               path-room = w .0;
               profile-room = c .0;

@@ -64,12 +64,10 @@ pub fn is_below(t: &[i32], a: usize, n: usize) -> bool
 // Whether the word at a is the number x.
 pub fn is_link(t: &[i32], a: usize, x: usize) -> bool
     requires { ⌜ a < length (now t) ⌝ }
+    requires { ⌜ x < 2147483648 ⌝ }
     ensures { λ r. ⌜ r ≡ same (word (now (t .entry)) a) (pos x) ⌝ }
 {
-    if is_natural(t, a) {
-        return link_at(t, a) == x;
-    }
-    false
+    t[a] == x as i32
 }
 
 // Whether two lists have the same word at a.

@@ -1,15 +1,11 @@
-use mathlib.Core.Path.{_≡_, refl}
+use mathlib.Core.Path.{_≡_}
 use Prim.Native.Nat.{_-_, _≤_, _<_}
 use native.Mathlib.Omega.{arith}
-use borrow.Author.Needs.{needs}
 use lib.IntN.{pos}
 use lib.ListN.{length}
 use Rattle.calls.proofs.Tests.{Filled, filled-long, fill-none, fill-next, fill-end}
 use Rattle.calls.proofs.clear_path.Statement.{statement}
 use Rattle.calls.proofs.clear_path.Tie as tie
-use Rattle.calls.proofs.clear_path.Reads as reads
-use Rattle.calls.proofs.clear_path.Lts as lts
-use Rattle.words.proofs.put_link.Reads as put-link-reads
 
 abbrev Inv-loop : tie.InvT-loop
 Inv-loop path₀ np k₀ path k = Filled (pos 0) path₀ path k × (k ≤ np)

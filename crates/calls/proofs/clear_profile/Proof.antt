@@ -1,14 +1,10 @@
 use mathlib.Core.Path.{_≡_, refl}
 use Prim.Native.Nat.{_-_, _≤_, _<_}
 use native.Mathlib.Omega.{arith}
-use borrow.Author.Needs.{needs}
-use lib.IntN.{pos}
 use lib.ListN.{length}
 use Rattle.calls.proofs.Tests.{Filled, filled-long, fill-none, fill-next, fill-end}
 use Rattle.calls.proofs.clear_profile.Statement.{statement}
 use Rattle.calls.proofs.clear_profile.Tie as tie
-use Rattle.calls.proofs.clear_profile.Reads as reads
-use Rattle.calls.proofs.clear_profile.Lts as lts
 
 abbrev Inv-loop : tie.InvT-loop
 Inv-loop profile₀ np k₀ profile k = Filled 0 profile₀ profile k × (k ≤ np)

@@ -1,11 +1,7 @@
 use borrow.Author.Tests.{le-leb, lt-leb}
-use native.Mathlib.Omega.{arith}
 use borrow.Author.Needs.{needs}
 use Rattle.calls.proofs.front_length.Statement.{statement}
 use Rattle.calls.proofs.front_length.Tie as tie
-use Rattle.calls.proofs.front_length.Reads as reads
-use Rattle.calls.proofs.front_length.Lts as lts
-use Rattle.calls.proofs.wide.Reads as wide-reads
 
 enum-told : tie.Need-enum-told
 enum-told c = search needs

@@ -6,9 +6,6 @@ use Rattle.calls.proofs.Tests.{front-part}
 use borrow.Author.Needs.{needs}
 use Rattle.calls.proofs.report.Statement.{statement}
 use Rattle.calls.proofs.report.Tie as tie
-use Rattle.calls.proofs.report.Reads as reads
-use Rattle.calls.proofs.report.Lts as lts
-use Rattle.calls.proofs.front_length.Reads as front-length-reads
 
 front-length-requires : tie.Need-front-length-requires
 front-length-requires c κs = search needs

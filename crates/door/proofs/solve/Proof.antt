@@ -2,7 +2,7 @@ use mathlib.Core.Path.{sym, _∙_}
 use native.Mathlib.Omega.{arith}
 use lib.IntN.{pos}
 use lib.Seq.{length-take-le}
-use Rattle.problem.specs.Measured.{table-bound}
+use Rattle.problem.specs.Measured.{table-bounds}
 use Rattle.door.proofs.Outcomes.{take-zeros}
 use borrow.Author.Needs.{needs}
 use Rattle.door.proofs.solve.Statement.{statement}
@@ -15,7 +15,7 @@ array-borrow-prefix-table : tie.Need-array-borrow-prefix-table
 array-borrow-prefix-table c = search needs
 
 slice-aggregate-solve-parts : tie.Need-slice-aggregate-solve-parts
-slice-aggregate-solve-parts c = sym (length-take-le _ _ (omega (arith, c .before .table-words .ensures, table-bound (c .before .before .before .pre .bounds))))
+slice-aggregate-solve-parts c = sym (length-take-le _ _ (omega (arith, c .before .table-words .ensures, table-bounds (c .before .before .before .pre .bounds) .0)))
 
 array-borrow-prefix-path : tie.Need-array-borrow-prefix-path
 array-borrow-prefix-path c = search needs

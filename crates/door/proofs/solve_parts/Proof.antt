@@ -14,7 +14,7 @@ use Rattle.rules.specs.Walk.{Walk}
 use Rattle.rules.specs.Calls.{next-said}
 use Rattle.rules.specs.Door.{walk-to}
 use Rattle.problem.specs.CutLaws.{cannot}
-use Rattle.problem.specs.Measured.{table-bound}
+use Rattle.problem.specs.Measured.{table-bounds}
 use Rattle.search.specs.Points.{On}
 use Rattle.search.specs.Arrived.{visits-to, Arrived}
 use Rattle.search.specs.Meant.{top-on, top-profile}
@@ -30,7 +30,7 @@ top : (q : tie.After-walk-to-arg3)
 top q =
     let pre = q .before .before .before .before .before .before .before .before .before .pre in
     let init-links = q .before .before .before .before .before .init-links in
-    let A = pre .0 in top-on _ _ (A .measures) (A .faultless) (omega (arith, table-bound (A .bounds))) (init-links .ensures) (pre .1 .path-is)
+    let A = pre .0 in top-on _ _ (A .measures) (A .faultless) (omega (arith, table-bounds (A .bounds) .0)) (init-links .ensures) (pre .1 .path-is)
 
 abbrev walked : tie.After-walk-to → Walk
 walked q =

@@ -1,3 +1,4 @@
+use native.Mathlib.Omega.{arith}
 use borrow.Author.Needs.{needs}
 use denote.Ref.{now}
 use Rattle.problem.proofs.Tests.{fails, holds, so}
@@ -19,9 +20,6 @@ returns-2 c =
 link-at-requires : tie.Need-link-at-requires
 link-at-requires c κs = (search needs, so (holds (c .before .is-natural .ensures) (c .if2 .left)))
 
-mul-if3 : tie.Need-mul-if3
-mul-if3 c = search needs
-
 sub-if3 : tie.Need-sub-if3
 sub-if3 c = search needs
 
@@ -31,12 +29,12 @@ sub-if3-2 c = search needs
 returns-3 : tie.Need-returns-3
 returns-3 c =
     let s = c .before .before .before .before .before .args in
-    count-with-room (now (s .ws)) (s .at) (c .before .before .before .before .if1 .left) (c .before .link-at .result) (c .before .link-at .ensures .word-is) (c .if3 .taken)
+    count-with-room (now (s .ws)) (s .at) (c .before .before .before .before .if1 .left) (c .before .link-at .result) (c .before .link-at .ensures .word-is) (omega (arith, c .if3 .taken))
 
 returns-4 : tie.Need-returns-4
 returns-4 c =
     let s = c .before .before .before .before .before .args in
-    no-count-short (now (s .ws)) (s .at) (c .before .before .before .before .if1 .left) (c .before .link-at .result) (c .before .link-at .ensures .word-is) (c .if3 .left)
+    no-count-short (now (s .ws)) (s .at) (c .before .before .before .before .if1 .left) (c .before .link-at .result) (c .before .link-at .ensures .word-is) (omega (arith, c .if3 .left))
 
 pub count-at-spec : {M : Type 1} → statement M
 count-at-spec =
@@ -46,7 +44,6 @@ count-at-spec =
     is-natural-requires
     returns-2
     link-at-requires
-    mul-if3
     sub-if3
     sub-if3-2
     returns-3

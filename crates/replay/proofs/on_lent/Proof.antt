@@ -5,9 +5,6 @@ use Rattle.replay.proofs.Operands.{done-within}
 use borrow.Author.Needs.{needs}
 use Rattle.replay.proofs.on_lent.Statement.{statement}
 use Rattle.replay.proofs.on_lent.Tie as tie
-use Rattle.replay.proofs.on_lent.Reads as reads
-use Rattle.replay.proofs.on_lent.Lts as lts
-use Rattle.replay.proofs.commands.run.Reads as run-reads
 
 slice-aggregate-run : tie.Need-slice-aggregate-run
 slice-aggregate-run c =

@@ -59,18 +59,23 @@ loop-holds c = λ P held e C. touching-start (C .touch) (i-is (c .before .before
 
 purify-node-requires : tie.Need-purify-node-requires Inv-loop μ-loop
 purify-node-requires c κs =
-    let C = c .before .before .before .before .before .before .before .before .before .before .before .pre .3 in (
-      _,
-      _,
-      _,
-      c .before .before .before .before .before .before .before .before .before .before .before .pre .2,
-      _,
-      record {
-        can = touching-node (C .touch) (c .before .before .loop .inv _ _ _ C) (i-is (c .before .before .before .before .before .before .before) C)
-            (c .before .loop-test .taken);
-        colour-is = read-colour (C .touch .n-is) (C .says) (c .before .before .before .before .before .before .before .before .before .colour-of .ensures);
-        coloured = C .coloured;
-      },
+    let pre = c .before .before .before .before .before .before .before .before .before .before .before .pre in
+    let colour-of = c .before .before .before .before .before .before .before .before .before .colour-of in
+    let C = pre .3 in (
+      (
+        _,
+        _,
+        _,
+        pre .2,
+        _,
+        record {
+          can = touching-node (C .touch) (c .before .before .loop .inv _ _ _ C) (i-is (c .before .before .before .before .before .before .before) C)
+              (c .before .loop-test .taken);
+          colour-is = read-colour (C .touch .n-is) (C .says) (colour-of .ensures);
+          coloured = C .coloured;
+        },
+      ),
+      colour-of .ensures .small,
     )
 
 add-updates : tie.Need-add-updates Inv-loop μ-loop

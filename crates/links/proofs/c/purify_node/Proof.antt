@@ -6,10 +6,10 @@ use Rattle.links.proofs.c.purify_node.Statement.{statement}
 use Rattle.links.proofs.c.purify_node.Tie as tie
 
 has-colour-requires : tie.Need-has-colour-requires
-has-colour-requires c κs = meet-colour (c .before .pre .5 .can)
+has-colour-requires c κs = (meet-colour (c .before .pre .0 .5 .can), c .before .pre .1)
 
 mark-node-requires : tie.Need-mark-node-requires
-mark-node-requires c κs = meet-colour (c .before .before .before .before .pre .5 .can)
+mark-node-requires c κs = meet-colour (c .before .before .before .before .pre .0 .5 .can)
 
 same-length : tie.Need-same-length
 same-length c = search needs
@@ -20,7 +20,7 @@ returns c =
     (c .before .mark-node .ensures)
 
 hide-requires : tie.Need-hide-requires
-hide-requires c κs = (_, _, _, _, c .before .before .before .before .pre .5 .can .can)
+hide-requires c κs = (_, _, _, _, c .before .before .before .before .pre .0 .5 .can .can)
 
 same-length-2 : tie.Need-same-length-2
 same-length-2 c = search needs

@@ -16,20 +16,17 @@ abbrev μ-loop : tie.MeasureT-loop
 loop-holds : tie.Need-loop-holds Inv-loop μ-loop
 loop-holds c = start (pos 7) (now (c .args .list))
 
-mul-list : tie.Need-mul-list Inv-loop μ-loop
-mul-list c = omega arith
-
-slice-set-of-list : tie.Need-slice-set-of-list Inv-loop μ-loop
-slice-set-of-list c = omega arith
+put-link-requires : tie.Need-put-link-requires Inv-loop μ-loop
+put-link-requires c κs = (omega (arith, c .before .before .loop .inv .same), omega arith)
 
 add-i : tie.Need-add-i Inv-loop μ-loop
 add-i c = omega arith
 
 loop-less : tie.Need-loop-less Inv-loop μ-loop
-loop-less c = omega (arith, c .before .loop .inv .same)
+loop-less c = omega (arith, c .before .before .before .before .loop .inv .same)
 
 loop-again : tie.Need-loop-again Inv-loop μ-loop
-loop-again c = turn (c .before .loop .inv) (c .loop-test .taken)
+loop-again c = rw (c .before .put-link .ensures) (turn (c .before .before .before .before .loop .inv) (c .before .before .before .loop-test .taken))
 
 same-length : tie.Need-same-length Inv-loop μ-loop
 same-length c = c .before .loop .inv .same
@@ -44,8 +41,7 @@ fill-words-spec =
     Inv-loop
     μ-loop
     loop-holds
-    mul-list
-    slice-set-of-list
+    put-link-requires
     add-i
     loop-less
     loop-again
