@@ -5,7 +5,7 @@ use std::collections::BTreeMap;
 use model::calls::{Outcome, refusal_of_words};
 use model::replay::{Command, LONGEST_LIST, LONGEST_TABLE, Machine};
 
-use crate::trace::{At, Trace};
+use crate::trace::Trace;
 use crate::verdict::Verdict;
 
 /// Searches with more stops are left out of the lists.
@@ -19,8 +19,9 @@ pub struct Tally {
     pub visits: u64,
     pub solutions: u64,
     pub calls: u64,
-    /// Calls that dlx judged; the words of the others are refused as 1 to 8, or were as 9 before that.
+    /// Calls on accepted words, which dlx judged; the words of the others are refused as 1 to 8, or were as 9 before that.
     pub judged: u64,
+    /// By the command's letter, or `d` for the host door.
     pub answers: BTreeMap<(char, u32), u64>,
 }
 
@@ -114,8 +115,7 @@ impl Author {
 
     /// Visits and solutions of the whole search by dlx; none where the problem is refused.
     pub fn size(&self) -> Option<(usize, usize)> {
-        let count = |trace: &Trace, at| trace.stops.iter().filter(|stop| stop.at == at).count();
-        self.trace.as_ref().map(|trace| (count(trace, At::Visit), count(trace, At::Solution)))
+        self.trace.as_ref().map(Trace::size)
     }
 
     pub fn trace(&self) -> Option<&Trace> {
@@ -127,10 +127,13 @@ impl std::fmt::Display for Tally {
     fn fmt(&self, out: &mut std::fmt::Formatter) -> std::fmt::Result {
         let Tally { problems, accepted, visits, solutions, calls, judged, answers } = self;
         writeln!(out, "{problems} problems; {accepted} accepted, with {visits} visits and {solutions} solutions")?;
-        write!(out, "  {calls} calls, {judged} of them judged by dlx; answers")?;
-        for call in ['u', 'n', 'g'] {
-            write!(out, "\n  {call}:")?;
-            for ((_, answer), count) in answers.range((call, 0)..=(call, u32::MAX)) {
+        write!(out, "  {calls} calls, {judged} of them on accepted words and judged by dlx; answers")?;
+        for call in ['u', 'n', 'g', 'd'] {
+            let mut of_call = answers.range((call, 0)..=(call, u32::MAX)).peekable();
+            if of_call.peek().is_some() {
+                write!(out, "\n  {call}:")?;
+            }
+            for ((_, answer), count) in of_call {
                 write!(out, " {answer}: {count},")?;
             }
         }

@@ -3,7 +3,7 @@
 use model::calls::host_door;
 
 use crate::Random;
-use crate::author::MOST_STOPS;
+use crate::author::{MOST_STOPS, Tally};
 use crate::problems;
 use crate::trace::Trace;
 
@@ -44,6 +44,9 @@ impl Call {
         if let Some(trace) = trace {
             let judged = trace.host_door(self.number, self.allowance, &vec![UNWRITTEN; self.room]);
             assert_eq!((answer, &out), (judged.0, &judged.1), "model and dlx differ at {}", self.text());
+        } else {
+            assert!((1..=9).contains(&answer), "accepted: {}", self.text());
+            assert!(out.iter().all(|&byte| byte == UNWRITTEN), "a refusal wrote: {}", self.text());
         }
         if let Some(door) = door {
             let mut written = vec![UNWRITTEN; self.room];
@@ -58,17 +61,72 @@ impl Call {
     }
 }
 
-/// A few calls on one problem; what each answered.
-pub fn exercise(words: &[i32], random: &mut Random, door: Option<Door>) -> Vec<u32> {
-    let whole: Vec<u8> = words.iter().flat_map(|word| word.to_le_bytes()).collect();
+/// dlx's search of the bytes where the door accepts them, given room enough. Nothing at all if it is too long.
+fn search_of(bytes: &[u8]) -> Option<Option<Trace>> {
     let mut enough = vec![UNWRITTEN; 4 + 4 * 64];
-    let is_sound = matches!(host_door(&whole, 0, 0, &mut enough), 0 | 20 | 21);
-    let trace = if is_sound { Trace::of(words, MOST_STOPS) } else { None };
-    let call = |_| {
-        let call = Call::random(words, random);
-        call.judge(trace.as_ref().filter(|_| call.bytes == whole), door)
-    };
-    (0..4).map(call).collect()
+    if !matches!(host_door(bytes, 0, 0, &mut enough), 0 | 20 | 21) {
+        return Some(None);
+    }
+    let words: Vec<i32> =
+        bytes.chunks_exact(4).map(|word| i32::from_le_bytes([word[0], word[1], word[2], word[3]])).collect();
+    Trace::of(&words, MOST_STOPS).map(Some)
+}
+
+/// One problem for the door, and what came of the calls on it.
+pub struct Caller<'a> {
+    words: &'a [i32],
+    bytes: Vec<u8>,
+    trace: Option<Trace>,
+    door: Option<Door>,
+    pub tally: Tally,
+}
+
+impl<'a> Caller<'a> {
+    /// None if the problem's search is too long.
+    pub fn new(words: &'a [i32], door: Option<Door>) -> Option<Self> {
+        let bytes: Vec<u8> = words.iter().flat_map(|word| word.to_le_bytes()).collect();
+        let trace = search_of(&bytes)?;
+        let mut tally = Tally { problems: 1, ..Tally::default() };
+        if let Some(trace) = &trace {
+            let (visits, solutions) = trace.size();
+            (tally.accepted, tally.visits, tally.solutions) = (1, visits as u64, solutions as u64);
+        }
+        Some(Caller { words, bytes, trace, door, tally })
+    }
+
+    /// A few calls, some with only the front of the bytes. False if a search is too long.
+    pub fn at_random(&mut self, random: &mut Random) -> bool {
+        (0..4).all(|_| self.call(&Call::random(self.words, random)))
+    }
+
+    /// Each solution and one more, each allowance up to the end, and an output one byte short.
+    pub fn each_call(&mut self) {
+        let np = self.words.first().map_or(0, |&np| np.clamp(0, 1_024) as usize);
+        let exact = 4 + 4 * np;
+        let (visits, solutions) = self.trace.as_ref().map_or((0, 0), Trace::size);
+        let by_number = (0..=solutions as u64).map(|number| (number, u64::MAX, exact));
+        let by_allowance = (0..=visits as u64).map(|allowance| (solutions as u64, allowance, exact));
+        for (number, allowance, room) in by_number.chain(by_allowance).chain([(0, u64::MAX, exact - 1)]) {
+            let is_made = self.call(&Call { bytes: self.bytes.clone(), number, allowance, room });
+            assert!(is_made, "the search is known");
+        }
+    }
+
+    fn call(&mut self, call: &Call) -> bool {
+        let part;
+        let trace = if call.bytes == self.bytes {
+            &self.trace
+        } else {
+            let Some(trace) = search_of(&call.bytes) else { return false };
+            part = trace;
+            &part
+        };
+        let answer = call.judge(trace.as_ref(), self.door);
+        self.tally.calls += 1;
+        self.tally.judged += u64::from(trace.is_some());
+        *self.tally.answers.entry(('d', answer)).or_default() += 1;
+        true
+    }
 }
 
 /// The door's own limits: items, options and entries at each and one beyond.

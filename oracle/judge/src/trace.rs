@@ -206,6 +206,12 @@ impl Trace {
         assert!(again.is_some_and(|again| again == stops), "begun again, dlx makes another search");
         Some(Trace { np: np as usize, fresh, stops, profile })
     }
+
+    /// Visits and solutions of the whole search.
+    pub fn size(&self) -> (usize, usize) {
+        let count = |at| self.stops.iter().filter(|stop| stop.at == at).count();
+        (count(At::Visit), count(At::Solution))
+    }
 }
 
 /// All stops from the beginning of the search to its end.

@@ -4,7 +4,7 @@ use std::io::Write;
 use std::process::{Command, Stdio};
 
 use judge::author::{Author, Tally};
-use judge::doors::{self, Door};
+use judge::doors::{self, Caller, Door};
 use judge::trace::{At, Trace};
 use judge::{Random, bad, exercises, problems};
 use model::replay::LONGEST_INPUT;
@@ -118,10 +118,15 @@ fn random_problems(batch: &mut Batch, count: usize, seed: u64) {
     batch.flush();
 }
 
-fn every_tiny_problem(batch: &mut Batch) {
+/// Every list of a few words, and every problem of a few items and options.
+fn tiny_ones() -> impl Iterator<Item = Vec<i32>> {
     let sizes = [(1, 0, 5), (1, 1, 4), (1, 2, 2), (2, 0, 5), (2, 1, 4), (2, 2, 2), (3, 0, 4), (3, 1, 3)];
     let structured = sizes.into_iter().flat_map(|(np, ns, most)| problems::every_problem(np, ns, most));
-    for words in problems::every_list(8).chain(structured) {
+    problems::every_list(8).chain(structured)
+}
+
+fn every_tiny_problem(batch: &mut Batch) {
+    for words in tiny_ones() {
         let mut author = Author::default();
         assert!(author.lend(&words, 0), "a tiny problem has a short search");
         if author.trace().is_some() {
@@ -180,15 +185,33 @@ fn counts_of_dlx(words: &[i32]) -> (u64, u64, u64) {
 
 fn compare_doors(door: Option<Door>, count: usize, seed: u64) {
     let mut random = Random::new(seed);
-    let mut answers = std::collections::BTreeMap::<u32, u64>::new();
-    let drawn = (0..count).map(|_| None);
-    for words in doors::at_the_limits().into_iter().map(Some).chain(drawn) {
-        let words = words.unwrap_or_else(|| problems::any(&mut random));
-        for answer in doors::exercise(&words, &mut random, door) {
-            *answers.entry(answer).or_default() += 1;
-        }
+    let mut tally = Tally::default();
+    for words in doors::at_the_limits() {
+        assert!(try_at_door(&words, &mut random, door, &mut tally), "a problem at a limit has a short search");
     }
-    println!("host door: {count} random problems, four calls each; answers {answers:?}");
+    let mut made = 0;
+    while made < count {
+        let words = problems::any(&mut random);
+        made += usize::from(try_at_door(&words, &mut random, door, &mut tally));
+    }
+    println!("host door, its limits and random: {tally}");
+    tally = Tally::default();
+    for words in tiny_ones() {
+        let mut caller = Caller::new(&words, door).expect("a tiny problem has a short search");
+        caller.each_call();
+        tally.add(&caller.tally);
+    }
+    println!("host door, every tiny one: {tally}");
+}
+
+/// Calls at random. False, and nothing counted, if a search is too long.
+fn try_at_door(words: &[i32], random: &mut Random, door: Option<Door>, tally: &mut Tally) -> bool {
+    let Some(mut caller) = Caller::new(words, door) else { return false };
+    let is_made = caller.at_random(random);
+    if is_made {
+        tally.add(&caller.tally);
+    }
+    is_made
 }
 
 #[cfg(feature = "door")]
