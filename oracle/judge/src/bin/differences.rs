@@ -1,5 +1,6 @@
 //! What dlx does, run, with the smallest inputs on which the project differs from it.
 
+use std::any::Any;
 use std::panic::{AssertUnwindSafe, catch_unwind};
 use std::sync::{Mutex, mpsc};
 use std::time::Duration;
@@ -7,6 +8,7 @@ use std::time::Duration;
 use dlx::c::{self, Problem};
 use dlx::choose::{Choose, mrv_chooser, no_tiebreak, prefer_any};
 use dlx::{Dance, OptOrder, Solve, Solver};
+use judge::problems;
 use judge::trace::{Options, as_options, words_told};
 use model::calls::{BLANK, Lent, next, set_up};
 
@@ -47,7 +49,11 @@ fn solutions(problem: &mut Problem) -> String {
 }
 
 fn tell(name: &str, words: &[i32]) {
-    println!("{name}: words {words:?}");
+    if words.len() < 100 {
+        println!("{name}: words {words:?}");
+    } else {
+        println!("{name}: {} words, which begin {:?}", words.len(), &words[..6]);
+    }
     let (np, ns, options) = as_options(words);
     match caught(move || make(np, ns, &options)) {
         Err(text) => println!("  dlx at set-up: {text}"),
@@ -90,7 +96,24 @@ fn counts() {
     println!("counts: words [1, 0, 1, 1, 0, 0], updates begun at the largest isize");
     let mut problem = one();
     *problem.updates() = isize::MAX;
-    println!("  dlx: {}", caught(move || solutions(&mut problem)).unwrap_or_else(|text| text));
+    let told = caught(move || {
+        let mut solver = Solver::new(&mut problem);
+        let mut call =
+            || format!("solution {}, updates {}", solver.next_solution(&mut chooser()), solver.get_updates());
+        format!("{}; then {}", call(), call())
+    });
+    println!("  dlx: {}", told.unwrap_or_else(|text| text));
+    let words = [1, 0, 1, 1, 0, 0];
+    let mut lent = ample();
+    let mut state = set_up(&words, &mut lent).state;
+    state.updates = isize::MAX as u64;
+    for _ in 0..2 {
+        let outcome = next(&words, &mut lent, state, 1);
+        state = outcome.state;
+        println!("  here: {}, updates {}", outcome.answer, state.updates);
+    }
+    state.updates += 1;
+    println!("  here, with one more lent: {}", next(&words, &mut lent, state, 1).answer);
 }
 
 fn second_solver() {
@@ -132,22 +155,59 @@ fn stale_path() {
 fn short_profile() {
     println!("profile: words [2, 0, 1, 1, 0, 0]");
     println!("  dlx: {}", solutions(&mut make(2, 0, &vec![vec![(0, 0)]])));
+    let words = [2, 0, 1, 1, 0, 0];
+    let mut lent = ample();
+    let state = set_up(&words, &mut lent).state;
+    let answer = next(&words, &mut lent, state, 1).answer;
+    println!("  here: {answer}, profile {:?}", &lent.profile[..2]);
+}
+
+/// 4,097 options, all but the first empty.
+fn many_options() -> Vec<i32> {
+    let mut options = vec![Vec::new(); 4_097];
+    options[0].push((0, 0));
+    problems::words(1, 0, &options)
+}
+
+/// 16 options with each of 1,024 items, and one with item 0: 16,385 entries.
+fn many_entries() -> Vec<i32> {
+    let full: Vec<(i32, i32)> = (0..1_024).map(|item| (item, 0)).collect();
+    let mut options = vec![full; 16];
+    options.push(vec![(0, 0)]);
+    problems::words(1_024, 0, &options)
+}
+
+fn text_of(payload: &dyn Any) -> &str {
+    let formatted = || payload.downcast_ref::<String>().map(String::as_str);
+    payload.downcast_ref::<&str>().copied().or_else(formatted).unwrap_or("")
+}
+
+fn minus_one() {
+    tell("bad index, -1", &[1, 0, 1, 2, 0, 0, -1, 0]);
 }
 
 fn main() {
     std::panic::set_hook(Box::new(|info| {
         let place =
             info.location().map_or(String::new(), |place| place.file().rsplit('/').next().unwrap_or("").to_string());
-        let text = info.payload_as_str().unwrap_or("");
+        let text = text_of(info.payload());
         *PANIC.lock().expect("one panic at a time") = format!("{text} ({place})");
     }));
+    if cfg!(debug_assertions) {
+        println!("a debug build, where it does something else");
+        minus_one();
+        counts();
+        return;
+    }
     tell("no primary item", &[0, 0, 0]);
     tell("no options", &[1, 0, 0]);
     tell("more than 1,024 items", &[1, 1024, 1, 1, 0, 0]);
+    tell("more than 4,096 options", &many_options());
+    tell("more than 16,384 entries", &many_entries());
     tell("bad index, no such node", &[1, 0, 1, 2, 0, 0, 9, 0]);
     tell("bad index, the first spacer", &[1, 0, 1, 2, 0, 0, 1, 0]);
     tell("bad index, the option's own node", &[1, 0, 1, 2, 0, 0, 2, 0]);
-    tell("bad index, -1", &[1, 0, 1, 2, 0, 0, -1, 0]);
+    minus_one();
     tell("skipped option with a bad item", &[1, 0, 1, 1, 1, 0]);
     tell("skipped option with a bad item beside a kept one", &[1, 0, 2, 1, 0, 0, 1, 9, 0]);
     tell("repeat of a primary item", &[1, 0, 1, 2, 0, 0, 0, 0]);
