@@ -22,6 +22,8 @@
 //! assert_eq!(solution(&problem, 1, 1_000), Err(Error::NoSuchSolution));
 //! ```
 
+#![warn(missing_docs)]
+
 use std::fmt;
 
 /// Items, primary and secondary together, are at most this many.
@@ -34,7 +36,9 @@ pub const MOST_ENTRIES: usize = 256;
 /// An item of an option: primary ones are numbered from 0, secondary ones follow. Colour 0 means uncoloured.
 #[derive(Clone, Copy, Debug, PartialEq, Eq)]
 pub struct Entry {
+    /// The item's number.
     pub item: i32,
+    /// The colour that the option gives it: 0 or, for a secondary item, any positive number.
     pub colour: i32,
 }
 
@@ -48,8 +52,11 @@ impl Entry {
 /// Options without a primary item are in no solution, and keep their place in the numbering.
 #[derive(Clone, Debug, PartialEq, Eq)]
 pub struct Problem {
+    /// How many items are primary.
     pub primary: i32,
+    /// How many items are secondary.
     pub secondary: i32,
+    /// The options, each with its entries, in the order that numbers them from 0.
     pub options: Vec<Vec<Entry>>,
 }
 
@@ -80,6 +87,7 @@ pub enum Refusal {
 /// Why there is no solution to hand back.
 #[derive(Clone, Copy, Debug, PartialEq, Eq)]
 pub enum Error {
+    /// The problem is refused, and no search was made.
     Refused(Refusal),
     /// The search ended before this solution.
     NoSuchSolution,
@@ -89,6 +97,9 @@ pub enum Error {
 
 impl Error {
     /// The error that the door's answer stands for, or none for 0.
+    ///
+    /// # Errors
+    /// [`Error::Refused`] for 1 to 9, [`Error::NoSuchSolution`] for 20, [`Error::AllowanceSpent`] for 21.
     ///
     /// # Panics
     /// Where the number is none of the door's.
@@ -126,6 +137,10 @@ impl std::error::Error for Error {}
 
 /// Solution `number` of the problem, from 0, as option numbers in the order chosen. The search makes at most `allowance`
 /// visits for this solution and those before it together; a visit is a point where an item is chosen.
+///
+/// # Errors
+/// [`Error::Refused`] where the problem is none or too large, [`Error::NoSuchSolution`] where it has no more than `number`
+/// solutions, [`Error::AllowanceSpent`] where another visit was due.
 pub fn solution(problem: &Problem, number: u64, allowance: u64) -> Result<Vec<usize>, Error> {
     let mut out = [0; 4 + 4 * MOST_ITEMS];
     Error::of(call(&bytes(problem), number, allowance, &mut out))?;
