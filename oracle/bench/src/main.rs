@@ -137,6 +137,8 @@ fn show(entries: &[Entry]) {
 }
 
 fn compete(problem: &Problem) {
+    #[cfg(feature = "timed")]
+    proved::check(problem);
     let mut classes = [entries::<false>(problem), entries::<true>(problem)];
     for round in 0..=ROUNDS {
         for entry in classes.iter_mut().flatten() {

@@ -128,9 +128,13 @@ impl<'a> Lent<'a> {
     }
 }
 
+/// That the loop finds the last solution, once before the rounds: a turn sees only that there is no further one.
+pub fn check(problem: &Problem) {
+    assert_eq!(Lent::new(problem).walk(problem.solutions - 1), FOUND);
+}
+
 /// The loop of the search alone, asked for a solution more than there are. It sets up once more.
 fn walk(problem: &Problem) -> Turn {
-    assert_eq!(Lent::new(problem).walk(problem.solutions - 1), FOUND);
     let lent = Lent::new(problem);
     timed(
         || lent.set_up(),
