@@ -150,6 +150,8 @@ fn stale_path() {
         state = next(&words, &mut lent, state, 1).state;
         println!("  here: depth {}, path word {}", state.depth, lent.path[0]);
     }
+    lent.path[0] = 1;
+    println!("  here, with path word 1 lent: {}", next(&words, &mut lent, state, 1).answer);
 }
 
 fn short_profile() {
