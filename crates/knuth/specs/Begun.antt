@@ -11,7 +11,7 @@ use Rattle.rules.specs.Lists.{over}
 use Rattle.rules.specs.Problem.{Problem}
 use Rattle.rules.specs.Order.{pick}
 use Rattle.rules.specs.Calls.{capped, profile-from, NextLent}
-use Rattle.knuth.specs.Listed.{listed}
+use Rattle.rules.specs.Walk.{listed}
 use Rattle.knuth.specs.Trace.{Trace, _then_, whole, rest}
 use Rattle.knuth.specs.Walks.{then-nothing, whole-found}
 use Rattle.knuth.specs.Series.{stands-at, problem, coming, Begins, Seen, series, Over, Tells}

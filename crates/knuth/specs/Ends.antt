@@ -10,11 +10,10 @@ use Rattle.rules.specs.declared.Phase.{Phase}
 use Rattle.rules.specs.declared.Phase.the-variants.{Ready, Solution, Done}
 use Rattle.rules.specs.Problem.{Problem}
 use Rattle.rules.specs.Order.{Choice, Rule, choices, open-options, open-items}
-use Rattle.rules.specs.Walk.{Level, chosen, numbers, Move, retreat, enter, End, solution, exhausted, paused, Walk, stop, visiting, follow, at-point, walk, resume, solutions}
+use Rattle.rules.specs.Walk.{Level, chosen, numbers, Move, retreat, enter, End, solution, exhausted, paused, Walk, stop, visiting, follow, at-point, walk, resume, solutions, in-turn, listed}
 use Rattle.laws.specs.Lists.{flat-in}
 use Rattle.laws.specs.Order.{choice-facts, Sound}
 use Rattle.laws.specs.Reached.{Reached, root, level, resume-reached}
-use Rattle.knuth.specs.Listed.{in-turn, listed}
 use Rattle.knuth.specs.Search.{fewer, few}
 use Rattle.knuth.specs.Trace.{whole}
 use Rattle.knuth.specs.Walks.{whole-found, whole-lists, whole-at, numbers-told}

@@ -14,10 +14,9 @@ use Rattle.rules.specs.declared.NextAnswer.the-variants as NextSays
 use Rattle.rules.specs.Lists.{over}
 use Rattle.rules.specs.Order.{pick}
 use Rattle.rules.specs.Links.{fresh}
-use Rattle.rules.specs.Walk.{numbers, Walk}
+use Rattle.rules.specs.Walk.{numbers, Walk, listed}
 use Rattle.rules.specs.Calls.{moved, started, spare-after, NextLent, next-call, report-call}
 use Rattle.laws.specs.Order.{pick-sound}
-use Rattle.knuth.specs.Listed.{listed}
 use Rattle.knuth.specs.Ends.{reached-listed}
 use Rattle.knuth.specs.Series.{next-refusal, Accepted, stands-at, problem, with-spare}
 use Rattle.knuth.specs.Answers.{solution-said, never-refused}

@@ -14,11 +14,11 @@ use Rattle.rules.specs.Lists.{each, has, run, flat}
 use Rattle.rules.specs.Problem.{Entry, Problem, items}
 use Rattle.rules.specs.Knuth.{option, Has, Agree, Solution}
 use Rattle.rules.specs.Order.{has-item, agree, Placed, kept, placed, open-options, open-items, Choice, choices, Rule}
-use Rattle.rules.specs.Walk.{branch, solutions}
+use Rattle.rules.specs.Walk.{branch, solutions, in-turn, listed}
 use Rattle.laws.specs.Lists.{Apart, apart-nil, apart-cons, apart-keep, apart-map, apart-append, apart-flat, keep-mem, keep-in, each-at, each-all, has-at, has-in, flat-mem, flat-in, mem-length, keep-lt, keep-length, length-run}
 use Rattle.laws.specs.Order.{agree→, agree←, agree-sym, has-item←, place-facts, place-has, place-one, place-apart, open-item, open-item-facts, choice-facts, choice-in, choices-apart, Sound}
 use Rattle.laws.specs.Faults.{Good, plain}
-use Rattle.knuth.specs.Listed.{in-turn, listed, SameSet}
+use Rattle.knuth.specs.Listed.{SameSet}
 
 -- ---- the numbers told
 

@@ -22,12 +22,12 @@ use Rattle.rules.specs.Lists.{over}
 use Rattle.rules.specs.Problem.{Problem, cut, sizes, table-length, problem-refusal}
 use Rattle.rules.specs.Knuth as Knuth
 use Rattle.rules.specs.Order.{Rule, pick}
-use Rattle.rules.specs.Walk.{Level, Walk, resume}
+use Rattle.rules.specs.Walk.{Level, Walk, resume, listed}
 use Rattle.rules.specs.Calls.{capped, profile-from, blank, given-up, spare-after, SetUpLent, set-up-call, NextLent, next-call, GiveUpOutcome, give-up-call, report-call}
 use Rattle.laws.specs.Lists.{Apart}
 use Rattle.laws.specs.Order.{Sound}
 use Rattle.laws.specs.Faults.{Good, good-meant}
-use Rattle.knuth.specs.Listed.{listed, SameSet}
+use Rattle.knuth.specs.Listed.{SameSet}
 use Rattle.knuth.specs.Trace.{Trace, _then_, whole, to-come, remains, made-by, go-on}
 use Rattle.knuth.specs.Series.{Accepted, stands-at, problem, coming, Begins, beside, with-spare, give-up-part, after-give-up, Seen, series, Over, Tells, then-call}
 use Rattle.knuth.specs.Search as Search

@@ -12,11 +12,10 @@ use Rattle.rules.specs.Lists.{flat}
 use Rattle.rules.specs.Problem.{Problem}
 use Rattle.rules.specs.Order.{Placed, Choice, Rule, choices, open-options, open-items}
 use Rattle.rules.specs.Links.{Event, cost, own, touch, try, choose, held}
-use Rattle.rules.specs.Walk.{Level, made, chosen, in-order, numbers, Move, back-to, retreat, go-into, enter, solution, paused, Walk, stop, visiting, follow, at-point, walk, resume, branch, solutions}
+use Rattle.rules.specs.Walk.{Level, made, chosen, in-order, numbers, Move, back-to, retreat, go-into, enter, solution, paused, Walk, stop, visiting, follow, at-point, walk, resume, branch, solutions, in-turn, listed}
 use Rattle.laws.specs.Lists.{mem-length}
 use Rattle.laws.specs.Order.{choice-facts, Sound}
 use Rattle.tables.specs.Met.{cost-append}
-use Rattle.knuth.specs.Listed.{in-turn, listed}
 use Rattle.knuth.specs.Search.{fewer, few}
 use Rattle.knuth.specs.Trace.{Trace, nothing, _then_, visit, pay, deeper-by, tries, covers, spread, tree, whole, rest, to-come, remains, made-by}
 

@@ -7,4 +7,7 @@ pub mod Links
 pub mod Walk
 pub mod Calls
 pub mod Door
+pub mod Text
+pub mod Cover
+pub mod TextCases
 pub mod Cases

@@ -113,3 +113,12 @@ module _ (P : Problem) (rule : Rule) where
   unfoldable pub solutions : ℕ → List Placed → List (List Placed)
   solutions zero chosen = branch chosen (rule chosen) (λ o. [])
   solutions (suc d) chosen = branch chosen (rule chosen) (λ o. solutions d (o ∷ chosen))
+
+-- the numbers of chosen options, "in the order chosen"; the deepest choice stands first in the list given
+unfoldable pub in-turn : List Placed → List ℕ
+in-turn [] = []
+in-turn (o ∷ above) = in-turn above ++ (o .number ∷ [])
+
+-- all that the search lists below the empty choice: each level covers a primary item, so np levels are enough
+abbrev pub listed : Problem → Rule → List (List ℕ)
+listed P rule = map in-turn (solutions P rule (P .np) [])

@@ -34,6 +34,13 @@ pub enum GiveUpAnswer {
     Refused(State, u32),
 }
 
+// What the reader of the text form answers: how many words it wrote, the number of a faulty line, or the number of another refusal.
+pub enum Reading {
+    Words(usize),
+    Faulty(usize),
+    Refused(u32),
+}
+
 // How many items, options and entries a problem may have.
 pub struct Limits {
     pub items: usize,

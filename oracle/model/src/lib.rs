@@ -5,3 +5,4 @@ pub mod problem;
 pub mod replay;
 pub mod search;
 pub mod table;
+pub mod text;

@@ -6,7 +6,7 @@ use std::process::{Command, Stdio};
 use judge::author::{Author, Tally};
 use judge::doors::{self, Caller, Door};
 use judge::trace::{At, Trace};
-use judge::{Random, bad, exercises, problems};
+use judge::{Random, bad, exercises, problems, texts};
 use model::replay::LONGEST_INPUT;
 
 const RANDOM_PROBLEMS: usize = 100_000;
@@ -214,6 +214,26 @@ fn try_at_door(words: &[i32], random: &mut Random, door: Option<Door>, tally: &m
     is_made
 }
 
+/// Texts through the model, dlx's reader and, if it is named, the program that prints their solutions.
+fn compare_texts(program: Option<&str>, count: usize, seed: u64) {
+    let mut random = Random::new(seed);
+    let mut kinds = std::collections::BTreeMap::<&str, u64>::new();
+    let mut lines = 0;
+    let drawn = (0..count).map(|_| None);
+    for text in texts::at_the_limits().into_iter().map(Some).chain(drawn) {
+        let text = text.unwrap_or_else(|| texts::any(&mut random));
+        let (kind, expected) = texts::exercise(&text);
+        *kinds.entry(kind).or_default() += 1;
+        lines += expected.lines().count();
+        if let Some(program) = program {
+            let shown = String::from_utf8_lossy(&text[..text.len().min(400)]).into_owned();
+            let written = run(program, text);
+            assert_eq!(String::from_utf8_lossy(&written), expected, "text {shown:?}");
+        }
+    }
+    println!("texts: {count} random ones and those at the limits, {lines} lines to print; {kinds:?}");
+}
+
 #[cfg(feature = "door")]
 fn linked_door() -> Door {
     unsafe extern "C" {
@@ -252,6 +272,11 @@ fn main() {
             figures();
             compare(None, count, seed);
             compare_doors(None, count, seed);
+            compare_texts(None, count, seed);
+        }
+        ["text", program, ref rest @ ..] => {
+            let (count, seed) = how_many(rest);
+            compare_texts(Some(program), count, seed);
         }
         ["replay", program, ref rest @ ..] => {
             let (count, seed) = how_many(rest);
@@ -262,6 +287,6 @@ fn main() {
             let (count, seed) = how_many(rest);
             compare_doors(Some(linked_door()), count, seed);
         }
-        _ => panic!("compare model|replay PROGRAM|door [PROBLEMS [SEED]]"),
+        _ => panic!("compare model|replay PROGRAM|text PROGRAM|door [PROBLEMS [SEED]]"),
     }
 }

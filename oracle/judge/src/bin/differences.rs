@@ -7,10 +7,11 @@ use std::time::Duration;
 
 use dlx::c::{self, Problem};
 use dlx::choose::{Choose, mrv_chooser, no_tiebreak, prefer_any};
-use dlx::{Dance, OptOrder, Solve, Solver};
+use dlx::{Dance, OptOrder, Solve, Solver, Spec};
 use judge::problems;
 use judge::trace::{Options, as_options, words_told};
 use model::calls::{BLANK, Lent, next, set_up};
+use model::text::Reading;
 
 static PANIC: Mutex<String> = Mutex::new(String::new());
 
@@ -188,6 +189,21 @@ fn minus_one() {
     tell("bad index, -1", &[1, 0, 1, 2, 0, 0, -1, 0]);
 }
 
+fn tell_text(name: &str, text: &str) {
+    println!("{name}: text {:?}", &text[..text.len().min(40)]);
+    let read = Spec::new(text, true).and_then(|spec| Problem::from_spec(&spec));
+    match read {
+        Ok(mut problem) => println!("  dlx: {}", solutions(&mut problem)),
+        Err(error) => println!("  dlx: {error}"),
+    }
+    match model::text::read(text.as_bytes(), true) {
+        Reading::Words(words) => println!("  here: words {words:?}"),
+        Reading::Faulty(line, _) => println!("  here: 13, line {line}"),
+        Reading::Missing => println!("  here: 13, line 0"),
+        Reading::Long => println!("  here: 3"),
+    }
+}
+
 fn main() {
     std::panic::set_hook(Box::new(|info| {
         let place =
@@ -226,4 +242,11 @@ fn main() {
     second_solver();
     stale_path();
     short_profile();
+    tell_text("an item again in another colour", "a | s\na s:a s:b");
+    tell_text("an item again, once uncoloured", "a | s\na s s:a");
+    tell_text("a vertical tab", "a\na\u{b}");
+    tell_text("a letter beyond ASCII", "\u{e9}\n\u{e9}");
+    tell_text("a refused byte in a remark", "a\na\n| \u{7f}");
+    tell_text("a faulty items line, and no option", "a a");
+    tell_text("a long text", &("a\na\n".to_string() + &" ".repeat(65_533)));
 }

@@ -1,0 +1,4 @@
+pub mod Printing
+pub mod Filling
+pub mod Opening
+pub mod Showing

@@ -1,0 +1,5 @@
+pub mod Lines
+pub mod Pages
+pub mod Opening
+pub mod Printed
+pub mod Limits

@@ -1,0 +1,10 @@
+pub mod Tests
+pub mod Bytes
+pub mod Pieces
+pub mod Passing
+pub mod Placing
+pub mod Barring
+pub mod Entering
+pub mod Writing
+pub mod Lining
+pub mod Outcomes
