@@ -46,6 +46,11 @@ shown {P} A = record { good = A .good; small = A .small; shows = rw (A .is) (sho
 abbrev pub weigh : Problem → List Level → ℕ → Weighed
 weigh P s i = record { item = i; weight = length (choices i (open-options P (chosen s))) }
 
+none-lighter : (a : Weighed) (l : List Weighed) → a .weight ≡ 0 → least-from a l ≡ a
+unfolding least-from
+none-lighter a [] z = refl
+none-lighter a (b ∷ l) z = ap (λ (x : Bool). least-from (cond x b a) l) (le-ltb (b .weight) (a .weight) (omega arith)) ∙ none-lighter a l z
+
 -- the walk is at p: the items `done` are weighed, those of `rest` are ahead, and i is the header of the lightest, `best`
 pub record Choosing (P : Problem) (s : List Level) (p i min : ℕ) : Type 0 where
   pub done : List ℕ
@@ -150,6 +155,11 @@ module _ (P : Problem) (n : ℕ) (s : List Level) (t : List ℤ) (A : At P n s t
 
     pub no-lighter : min ≤ k → Choosing P s p′ i min
     no-lighter h = next false (le-ltb (W .weight) (C .best .weight) (omega (arith, C .weight))) i min (C .item) (C .weight)
+
+  -- nothing is lighter than an item without an option
+  pub dead : {p i min : ℕ} → Choosing P s p i min → min ≡ 0 → i ≡ header (pick P (chosen s))
+  dead C z =
+      C .item ∙ ap header (sym (C .picks ∙ ap (λ (w : Weighed). some (w .item)) (none-lighter (C .best) (map (weigh P s) (C .rest)) (sym (C .weight) ∙ z))))
 
   -- the walk is done
   pub chosen-is : {p i min : ℕ} → Choosing P s p i min → p ≡ 0 → i ≡ header (pick P (chosen s))

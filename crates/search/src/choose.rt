@@ -6,7 +6,8 @@ ghost use Rattle.rules.specs.Order.{pick};
 ghost use Rattle.rules.specs.Walk.{Level, chosen};
 ghost use Rattle.search.specs.Points.{At, SomeAt, header};
 
-// The header of the item that the order rule takes, 0 where no primary item is open.
+// The header of the item that the order rule takes, 0 where no primary item is open. No item is lighter than one without an option, so the first
+// of these is taken at once.
 pub fn choose(t: &[i32], n: usize) -> usize
     requires { ⌜ SomeAt n (now t) ⌝ }
     ensures { λ r. ⌜ ((P : Problem) (s : List Level) → At P n s (now (t .entry)) → r ≡ header (pick P (chosen s))) ⌝ }
@@ -18,6 +19,9 @@ pub fn choose(t: &[i32], n: usize) -> usize
     let mut min = links::c::len(t, n, i);
     let mut p = links::x::rlink(t, i);
     while p != 0 {
+        if min == 0 {
+            return i;
+        }
         let curr = links::c::len(t, n, p);
         if curr < min {
             min = curr;

@@ -5,7 +5,7 @@ use Rattle.rules.specs.Problem.{Problem}
 use Rattle.rules.specs.Order.{open-items}
 use Rattle.rules.specs.Walk.{Level, chosen}
 use Rattle.search.specs.Points.{At}
-use Rattle.search.proofs.Choosing.{Choosing, Turn, rank, ring-start, none-open, begin, turn, lighter-one, no-lighter, chosen-is}
+use Rattle.search.proofs.Choosing.{Choosing, Turn, rank, ring-start, none-open, begin, turn, lighter-one, no-lighter, dead, chosen-is}
 use Rattle.search.proofs.choose.choose.Statement.{statement}
 use Rattle.search.proofs.choose.choose.Tie as tie
 
@@ -42,30 +42,33 @@ loop-holds c = λ P s A.
     let T = first (c .before .before) P s A in
     begin P _ s _ A T _ _ (c .rlink2 .ensures P _ _ _ (T .ringed)) (c .before .len .ensures P _ _ (T .headed) ∙ T .counts)
 
+returns-2 : tie.Need-returns-2 Inv-loop μ-loop
+returns-2 c = λ P s A. dead P _ s _ A (c .before .before .loop .inv P s A) (c .if2 .taken)
+
 len-requires-2 : tie.Need-len-requires-2 Inv-loop μ-loop
-len-requires-2 c κs = let s = c .before .before .before .before .before .before in (_, _, _, at-turn c (s .pre .0) (s .pre .1) (s .pre .2) .headed)
+len-requires-2 c κs = let d = c .before in let s = d .before .before .before .before .before .before in (_, _, _, at-turn d (s .pre .0) (s .pre .1) (s .pre .2) .headed)
 
 rlink-requires-3 : tie.Need-rlink-requires-3 Inv-loop μ-loop
-rlink-requires-3 c κs = let d = c .before .before in let s = d .before .before .before .before .before .before in (_, _, _, _, at-turn d (s .pre .0) (s .pre .1) (s .pre .2) .ringed)
+rlink-requires-3 c κs = let d = c .before .before .before in let s = d .before .before .before .before .before .before in (_, _, _, _, at-turn d (s .pre .0) (s .pre .1) (s .pre .2) .ringed)
 
 loop-less : tie.Need-loop-less Inv-loop μ-loop
 loop-less c =
-    let d = c .before .before .before in
+    let d = c .before .before .before .before in
     let s = d .before .before .before .before .before .before in
     let T = at-turn d (s .pre .0) (s .pre .1) (s .pre .2) in
     T .less _ (c .rlink3 .ensures _ _ _ _ (T .ringed))
 
 loop-again : tie.Need-loop-again Inv-loop μ-loop
 loop-again c = λ P s A.
-    let d = c .before .before .before in
+    let d = c .before .before .before .before in
     let C = d .before .loop .inv P s A in
     let T = at-turn d P s A in
     let u = c .rlink3 .ensures P _ _ _ (T .ringed) in
     let v = c .before .before .len2 .ensures P _ _ (T .headed) ∙ T .counts in
-    ⊎-elim (λ w. rw (w .1, w .2) (lighter-one P _ s _ A C T _ _ u v (w .0 .taken))) (λ w. rw (w .1, w .2) (no-lighter P _ s _ A C T _ _ u v (w .0 .left))) (c .before .if2 .came)
+    ⊎-elim (λ w. rw (w .1, w .2) (lighter-one P _ s _ A C T _ _ u v (w .0 .taken))) (λ w. rw (w .1, w .2) (no-lighter P _ s _ A C T _ _ u v (w .0 .left))) (c .before .if3 .came)
 
-returns-2 : tie.Need-returns-2 Inv-loop μ-loop
-returns-2 c = λ P s A. chosen-is P _ s _ A (c .before .loop .inv P s A) (c .loop-test .left)
+returns-3 : tie.Need-returns-3 Inv-loop μ-loop
+returns-3 c = λ P s A. chosen-is P _ s _ A (c .before .loop .inv P s A) (c .loop-test .left)
 
 pub choose-spec : {M : Type 1} → statement M
 choose-spec =
@@ -78,8 +81,9 @@ choose-spec =
     len-requires
     rlink-requires-2
     loop-holds
+    returns-2
     len-requires-2
     rlink-requires-3
     loop-less
     loop-again
-    returns-2)
+    returns-3)
