@@ -17,4 +17,5 @@ pub mod Told
 pub mod Again
 pub mod Only
 pub mod Begun
+pub mod Allowances
 pub mod Theorems

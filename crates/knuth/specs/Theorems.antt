@@ -9,7 +9,7 @@ use mathlib.Core.Bool.{Bool, true}
 use mathlib.Core.List.{List, [], _++_, map, List·Memᴰ as Mem}
 use Prim.Native.Nat.{ℕ, _+_, _≤_, _<_}
 use lib.IntN.{ℤ, pos}
-use lib.ListN.{length, take}
+use lib.ListN.{length, take, drop}
 use Rattle.rules.specs.declared.Phase.{Phase}
 use Rattle.rules.specs.declared.Phase.the-variants.{Ready, Done}
 use Rattle.rules.specs.declared.State.{State}
@@ -37,6 +37,7 @@ use Rattle.knuth.specs.Stands as Stands
 use Rattle.knuth.specs.Sums as Sums
 use Rattle.knuth.specs.Told as Told
 use Rattle.knuth.specs.Begun as Begun
+use Rattle.knuth.specs.Allowances as Allowances
 use Rattle.knuth.specs.Again as Again
 use Rattle.knuth.specs.Only as Only
 
@@ -90,6 +91,24 @@ module _ (L : Limits) (ws : List ℤ) where
   pub calls-tell : (l : NextLent) (st : State) → Accepted L ws l st → st .phase ≢ Done → (allowances : List ℕ)
       → Tells ws (coming ws l st) l st (series L ws l st allowances)
   calls-tell l st S d allowances = Told.series-tells L ws allowances l st (stands-at ws l st) (Stands.accepted→ S) (Told.begun st d)
+
+  -- Document 02's request 12. From one point, two series of allowances that both end in exhausted report the same solutions in the same order, make
+  -- as many visits, and leave equal tables, paths, profiles and states: the series ends with its first call that answers exhausted.
+  pub anywhere-same : (l : NextLent) (st : State) → Accepted L ws l st → st .phase ≢ Done → (xs ys : List ℕ)
+      → let a : Seen = series L ws l st xs in
+      let b : Seen = series L ws l st ys in
+      a .exhausted ≡ true → b .exhausted ≡ true
+      → (a .found ≡ b .found) × (a .visits ≡ b .visits)
+      × (a .lent .table ≡ b .lent .table) × (a .lent .path ≡ b .lent .path) × (a .lent .profile ≡ b .lent .profile) × (a .state ≡ b .state)
+  anywhere-same l st S d = Allowances.same-end L ws l st S d
+
+  -- If one stops earlier, its solutions are the first of the other's; and so they are of any other that has reported as many.
+  pub anywhere-first : (l : NextLent) (st : State) → Accepted L ws l st → st .phase ≢ Done → (xs ys : List ℕ)
+      → let a : Seen = series L ws l st xs in
+      let b : Seen = series L ws l st ys in
+      (b .exhausted ≡ true → (more : List (List ℤ)) × (b .found ≡ a .found ++ more))
+      × (length (a .found) ≤ length (b .found) → b .found ≡ a .found ++ drop (length (a .found)) (b .found))
+  anywhere-first l st S d xs ys = (Allowances.all-of-it L ws l st S d xs ys, Allowances.earlier L ws l st S d xs ys)
 
   -- Exhausted is answered: if no allowance is 0, at the latest by the call after as many as visits and solutions are to come.
   pub calls-end : (l : NextLent) (st : State) → Accepted L ws l st → (allowances : List ℕ) → ((a : ℕ) → Mem a allowances → 0 < a)
