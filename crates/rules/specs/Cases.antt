@@ -1,9 +1,10 @@
--- Document 01's examples P1 to P12, as one list of data, and the theorem that the outcome functions give what it says.
+-- Document 01's examples P1 to P12, by the calls and at the host door, as one list of data, and the theorem that the outcome functions give what
+-- it says.
 use mathlib.Core.Path.{_≡_, refl}
 use mathlib.Core.Bool.{Bool, true, false, _&&_}
 use mathlib.Core.List.{List, [], _∷_, _++_, map}
 use mathlib.Core.Option.{Option, none, some}
-use Prim.Native.Nat.{ℕ, zero, suc, _+_}
+use Prim.Native.Nat.{ℕ, zero, suc, _+_, _*_}
 use lib.Dec.{eqb}
 use lib.IntN.{ℤ, pos, negsuc}
 use lib.ListN.{length, replicate, take, drop}
@@ -17,6 +18,8 @@ use Rattle.rules.specs.Order as Order
 use Rattle.rules.specs.Links as Links
 use Rattle.rules.specs.Walk as Walk
 use Rattle.rules.specs.Calls as Calls
+use Rattle.rules.specs.Door as Door
+use Rattle.rules.specs.Door.{DoorOutcome, door-call}
 use Rattle.rules.specs.Words.{same-words}
 use Rattle.rules.specs.Problem.{Cut, Problem, library-limits, cut, meant, sizes, table-length}
 use Rattle.rules.specs.Order.{pick}
@@ -45,6 +48,8 @@ pub data Case : Type 0 where
   sets-up : List ℕ → List ℤ → Case
   -- set-up refuses the words with this number
   refuses : List ℕ → ℕ → Case
+  -- lent the words as bytes, a solution's number and an allowance, the door answers this number, and with 0 writes these options
+  at-door : List ℕ → ℕ → ℕ → ℕ → List ℕ → Case
 
 P1-words : List ℕ
 P1-words =
@@ -57,11 +62,38 @@ P1-words =
     ∷ 3 ∷ 3 ∷ 0 ∷ 4 ∷ 0 ∷ 6 ∷ 0
     ∷ []
 
+P3-words : List ℕ
+P3-words = 1 ∷ 0 ∷ 1 ∷ 1 ∷ 0 ∷ 0 ∷ []
+
+P4-words : List ℕ
+P4-words = 1 ∷ 0 ∷ 2 ∷ 1 ∷ 0 ∷ 0 ∷ 1 ∷ 0 ∷ 0 ∷ []
+
+P5-words : List ℕ
+P5-words = 2 ∷ 0 ∷ 1 ∷ 1 ∷ 0 ∷ 0 ∷ []
+
+P6-words : List ℕ
+P6-words = 2 ∷ 1 ∷ 4 ∷ 2 ∷ 0 ∷ 0 ∷ 2 ∷ 5 ∷ 2 ∷ 1 ∷ 0 ∷ 2 ∷ 5 ∷ 2 ∷ 1 ∷ 0 ∷ 2 ∷ 6 ∷ 2 ∷ 1 ∷ 0 ∷ 2 ∷ 0 ∷ []
+
+P7-words : List ℕ
+P7-words = 2 ∷ 1 ∷ 2 ∷ 2 ∷ 0 ∷ 0 ∷ 2 ∷ 0 ∷ 2 ∷ 1 ∷ 0 ∷ 2 ∷ 0 ∷ []
+
 P8-words : List ℕ
 P8-words = 1 ∷ 1 ∷ 2 ∷ 1 ∷ 1 ∷ 0 ∷ 1 ∷ 0 ∷ 0 ∷ []
 
+P9-words : List ℕ
+P9-words = 1 ∷ 1 ∷ 1 ∷ 1 ∷ 1 ∷ 0 ∷ []
+
+P10-words : List ℕ
+P10-words = 1 ∷ 0 ∷ 1 ∷ 1 ∷ 1 ∷ 0 ∷ []
+
+P11-words : List ℕ
+P11-words = 1 ∷ 1 ∷ 1 ∷ 3 ∷ 0 ∷ 0 ∷ 1 ∷ 5 ∷ 1 ∷ 6 ∷ []
+
+P12-words : List ℕ
+P12-words = 1 ∷ 0 ∷ 1 ∷ 1 ∷ 0 ∷ 7 ∷ []
+
 pub P-cases : List Case
-unfolding P1-words P8-words
+unfolding P1-words P3-words P4-words P5-words P6-words P7-words P8-words P9-words P10-words P11-words P12-words
 P-cases =
     -- P1
     calls P1-words
@@ -74,18 +106,18 @@ P-cases =
     ∷ call 0 paused 0 (1 ∷ 2 ∷ []) 16 (1 ∷ 1 ∷ 0 ∷ 0 ∷ 0 ∷ 0 ∷ 0 ∷ [])
     ∷ [])
     -- P3
-    ∷ calls (1 ∷ 0 ∷ 1 ∷ 1 ∷ 0 ∷ 0 ∷ [])
+    ∷ calls P3-words
     (call 9 solution 1 (0 ∷ []) 1 (1 ∷ []) ∷ call 9 exhausted 0 [] 1 (1 ∷ []) ∷ call 9 solution 1 (0 ∷ []) 1 (2 ∷ []) ∷ [])
     -- P4
-    ∷ calls (1 ∷ 0 ∷ 2 ∷ 1 ∷ 0 ∷ 0 ∷ 1 ∷ 0 ∷ 0 ∷ [])
+    ∷ calls P4-words
     (call 9 solution 1 (0 ∷ []) 1 (1 ∷ []) ∷ call 9 solution 0 (1 ∷ []) 1 (1 ∷ []) ∷ call 9 exhausted 0 [] 1 (1 ∷ []) ∷ [])
     -- P5
-    ∷ calls (2 ∷ 0 ∷ 1 ∷ 1 ∷ 0 ∷ 0 ∷ []) (call 9 exhausted 1 [] 0 (1 ∷ 0 ∷ []) ∷ [])
+    ∷ calls P5-words (call 9 exhausted 1 [] 0 (1 ∷ 0 ∷ []) ∷ [])
     -- P6
-    ∷ calls (2 ∷ 1 ∷ 4 ∷ 2 ∷ 0 ∷ 0 ∷ 2 ∷ 5 ∷ 2 ∷ 1 ∷ 0 ∷ 2 ∷ 5 ∷ 2 ∷ 1 ∷ 0 ∷ 2 ∷ 6 ∷ 2 ∷ 1 ∷ 0 ∷ 2 ∷ 0 ∷ [])
+    ∷ calls P6-words
     (call 9 solution 2 (0 ∷ 1 ∷ []) 5 (1 ∷ 1 ∷ []) ∷ call 9 exhausted 0 [] 5 (1 ∷ 1 ∷ []) ∷ [])
     -- P7
-    ∷ calls (2 ∷ 1 ∷ 2 ∷ 2 ∷ 0 ∷ 0 ∷ 2 ∷ 0 ∷ 2 ∷ 1 ∷ 0 ∷ 2 ∷ 0 ∷ []) (call 9 exhausted 2 [] 4 (1 ∷ 1 ∷ []) ∷ [])
+    ∷ calls P7-words (call 9 exhausted 2 [] 4 (1 ∷ 1 ∷ []) ∷ [])
     -- P8
     ∷ calls P8-words (call 9 solution 1 (1 ∷ []) 1 (1 ∷ []) ∷ [])
     ∷ sets-up P8-words
@@ -93,11 +125,40 @@ P-cases =
     ++ map pos (0 ∷ 0 ∷ 0 ∷ 0 ∷ 1 ∷ 4 ∷ 4 ∷ 0 ∷ 0 ∷ 2 ∷ 2 ∷ 0 ∷ 0 ∷ 0 ∷ 4 ∷ 0 ∷ 1 ∷ 1 ∷ 1 ∷ 0 ∷ [])
     ++ negsuc 1 ∷ map pos (4 ∷ 0 ∷ 0 ∷ []))
     -- P9
-    ∷ calls (1 ∷ 1 ∷ 1 ∷ 1 ∷ 1 ∷ 0 ∷ []) (call 9 exhausted 1 [] 0 (1 ∷ []) ∷ [])
+    ∷ calls P9-words (call 9 exhausted 1 [] 0 (1 ∷ []) ∷ [])
     -- P10, P11, P12
-    ∷ refuses (1 ∷ 0 ∷ 1 ∷ 1 ∷ 1 ∷ 0 ∷ []) 5
-    ∷ refuses (1 ∷ 1 ∷ 1 ∷ 3 ∷ 0 ∷ 0 ∷ 1 ∷ 5 ∷ 1 ∷ 6 ∷ []) 6
-    ∷ refuses (1 ∷ 0 ∷ 1 ∷ 1 ∷ 0 ∷ 7 ∷ []) 7
+    ∷ refuses P10-words 5
+    ∷ refuses P11-words 6
+    ∷ refuses P12-words 7
+    -- at the door: P1's one solution takes 5 visits, and so does the whole tree
+    ∷ at-door P1-words 0 5 0 (3 ∷ 4 ∷ 0 ∷ [])
+    ∷ at-door P1-words 0 4 21 []
+    ∷ at-door P1-words 1 5 20 []
+    -- P2
+    ∷ at-door P1-words 1 2 21 []
+    -- P3: after its one solution the door does not start over
+    ∷ at-door P3-words 0 1 0 (0 ∷ [])
+    ∷ at-door P3-words 0 0 21 []
+    ∷ at-door P3-words 2 9 20 []
+    -- P4
+    ∷ at-door P4-words 1 1 0 (1 ∷ [])
+    ∷ at-door P4-words 2 1 20 []
+    -- P5
+    ∷ at-door P5-words 0 1 20 []
+    ∷ at-door P5-words 0 0 21 []
+    -- P6
+    ∷ at-door P6-words 0 2 0 (0 ∷ 1 ∷ [])
+    ∷ at-door P6-words 1 2 20 []
+    -- P7
+    ∷ at-door P7-words 0 2 20 []
+    -- P8
+    ∷ at-door P8-words 0 1 0 (1 ∷ [])
+    -- P9
+    ∷ at-door P9-words 0 1 20 []
+    -- P10, P11, P12
+    ∷ at-door P10-words 0 9 5 []
+    ∷ at-door P11-words 0 9 6 []
+    ∷ at-door P12-words 0 9 7 []
     ∷ []
 
 -- ---- what a case says
@@ -196,6 +257,14 @@ set-up-is C o k t p f =
     && holds-words (o .lent .path) p
     && holds-words (counts (o .lent .profile)) f
 
+-- the depth and the option numbers over the front, if the answer is 0; else nothing is written
+abbrev door-wrote : ℕ → List ℕ → List ℕ → List ℕ
+door-wrote zero o out = Lists.over (Lists.flat Words.word-bytes (length o ∷ o)) out
+door-wrote (suc r) o out = out
+
+abbrev door-is : DoorOutcome → ℕ → List ℕ → Bool
+door-is o r bytes = eqb (o .result) r && same-words (counts (o .out)) (counts bytes)
+
 unfoldable pub holds : Case → Bool
 holds (calls ns cs) =
     let C : Cut = cut (counts ns) in
@@ -209,8 +278,11 @@ holds (refuses ns k) =
     let C : Cut = cut (counts ns) in
     let old : List ℤ = replicate (C .np) (pos 7) in
     set-up-is C (set-up-call library-limits (counts ns) (blank-lent C)) k (replicate (table-length (sizes C)) (pos 7)) old old
+holds (at-door ns k a r o) =
+    let out : List ℕ = replicate (4 + 4 * cut (counts ns) .np + 1) 7 in
+    door-is (door-call (Lists.flat Words.word-bytes ns) k a out) r (door-wrote r o out)
 
 -- P1 to P12 are as document 01 says.
 pub P-cases-hold : Lists.each holds P-cases ≡ true
-unfolding P-cases holds as-called as-calls Lists.keep Lists.each Lists.has Lists.tally Lists.flat Lists.run Words.same-words Problem.entry-count Problem.pairs Problem.cut-options Problem.parts Problem.cut Problem.count-pairs Problem.cut-refusal Problem.entry-fault Problem.option-fault Problem.options-fault Problem.fault Problem.pairs-kept Problem.sizes Problem.problem-refusal Problem.meant Order.has-item Order.agree Order.kept Order.place Order.placed Order.open-options Order.open-items Order.place-of Order.choices Order.least-from Order.pick Links.nodes-from Links.previous Links.following Links.last-or Links.column Links.left-of Links.right-of Links.ring-words Links.header-words Links.node-words Links.last-node Links.option-words Links.fresh Links.cost Links.apply Links.others Links.linked Links.hide Links.touch Links.commit Links.try Links.choose Links.committed Links.held Links.events Links.table Walk.in-order Walk.retreat Walk.enter Walk.walk Walk.resume Calls.counts-fit Calls.profile-from Calls.level-of Calls.levels Calls.path-point Calls.point Calls.path-words Calls.lent-point Calls.search-refusal Calls.set-up-room Calls.set-up-call Calls.next-room Calls.next-call
+unfolding P-cases holds as-called as-calls Lists.keep Lists.each Lists.has Lists.tally Lists.flat Lists.run Words.same-words Problem.entry-count Problem.pairs Problem.cut-options Problem.parts Problem.cut Problem.count-pairs Problem.cut-refusal Problem.entry-fault Problem.option-fault Problem.options-fault Problem.fault Problem.pairs-kept Problem.sizes Problem.problem-refusal Problem.meant Order.has-item Order.agree Order.kept Order.place Order.placed Order.open-options Order.open-items Order.place-of Order.choices Order.least-from Order.pick Links.nodes-from Links.previous Links.following Links.last-or Links.column Links.left-of Links.right-of Links.ring-words Links.header-words Links.node-words Links.last-node Links.option-words Links.fresh Links.cost Links.apply Links.others Links.linked Links.hide Links.touch Links.commit Links.try Links.choose Links.committed Links.held Links.events Links.table Walk.in-order Walk.retreat Walk.enter Walk.walk Walk.resume Calls.counts-fit Calls.profile-from Calls.level-of Calls.levels Calls.path-point Calls.point Calls.path-words Calls.lent-point Calls.search-refusal Calls.set-up-room Calls.set-up-call Calls.next-room Calls.next-call Words.bytes-words Door.walk-to Door.door-refusal Door.door-call
 P-cases-hold = refl

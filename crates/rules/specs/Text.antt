@@ -214,6 +214,13 @@ words-of front (i ∷ o ∷ os) = some (text-words (items-of front i) (o ∷ os)
 
 -- ---- the reader
 
+-- The number and values of each answer, in the order in which a refusal prints them: 0 and how many words were written; 13 and the line; else
+-- the refusal's number, 3 or 9, which has no value.
+abbrev pub read-said : Reading → List ℕ
+read-said (Words n) = 0 ∷ n ∷ []
+read-said (Faulty line) = 13 ∷ line ∷ []
+read-said (Refused k) = k ∷ []
+
 pub record ReadOutcome : Type 0 where
   pub answer : Reading
   pub words : List ℤ

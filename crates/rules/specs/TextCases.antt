@@ -5,11 +5,8 @@ use mathlib.Core.List.{List, [], _∷_, _++_, map}
 use Prim.Native.Char.{code}
 use Prim.Native.String.{String, [] as ended, _∷_ as _then_}
 use Prim.Native.Nat.{ℕ, _+_}
-use lib.Dec.{eqb}
 use lib.IntN.{ℤ, pos}
 use lib.ListN.{length, replicate}
-use Rattle.rules.specs.declared.Reading.{Reading}
-use Rattle.rules.specs.declared.Reading.the-variants.{Words, Faulty, Refused}
 use Rattle.rules.specs.Lists as Lists
 use Rattle.rules.specs.Words as Words
 use Rattle.rules.specs.Words.{same-words}
@@ -17,7 +14,7 @@ use Rattle.rules.specs.Problem as Problem
 use Rattle.rules.specs.Order as Order
 use Rattle.rules.specs.Walk as Walk
 use Rattle.rules.specs.Text as Text
-use Rattle.rules.specs.Text.{same-name, ReadOutcome, read-call}
+use Rattle.rules.specs.Text.{same-name, ReadOutcome, read-said, read-call}
 use Rattle.rules.specs.Cover as Cover
 use Rattle.rules.specs.Cover.{printed}
 
@@ -90,21 +87,12 @@ T-cases =
     ∷ prints "a b\na" ""
     ∷ prints "a\nb" "refused 13 2\n"
     ∷ prints "a" "refused 13 0\n"
+    ∷ prints "" "refused 13 0\n"
     ∷ []
 
-abbrev answered : Reading → Reading → Bool
-answered (Words a) (Words b) = eqb a b
-answered (Words a) (Faulty b) = false
-answered (Words a) (Refused b) = false
-answered (Faulty a) (Words b) = false
-answered (Faulty a) (Faulty b) = eqb a b
-answered (Faulty a) (Refused b) = false
-answered (Refused a) (Words b) = false
-answered (Refused a) (Faulty b) = false
-answered (Refused a) (Refused b) = eqb a b
-
-abbrev came-to : ReadOutcome → Reading → List ℤ → Bool
-came-to o r ws = answered (o .answer) r && same-words (o .words) ws
+-- the answer has this number and these values, and the list holds these words
+abbrev came-to : ReadOutcome → List ℕ → List ℤ → Bool
+came-to o said ws = same-name (read-said (o .answer)) said && same-words (o .words) ws
 
 abbrev sevens : ℕ → List ℤ
 sevens n = replicate n (pos 7)
@@ -113,10 +101,10 @@ sevens n = replicate n (pos 7)
 unfoldable pub holds : Case → Bool
 unfolding bytes
 holds (reads front text ns) =
-    came-to (read-call (bytes text) front (sevens (length ns + 1))) (Words (length ns)) (map pos ns ++ pos 7 ∷ [])
-holds (faulty text k) = came-to (read-call (bytes text) true (sevens 1)) (Faulty k) (sevens 1)
+    came-to (read-call (bytes text) front (sevens (length ns + 1))) (0 ∷ length ns ∷ []) (map pos ns ++ pos 7 ∷ [])
+holds (faulty text k) = came-to (read-call (bytes text) true (sevens 1)) (13 ∷ k ∷ []) (sevens 1)
 holds (prints text out) = same-name (printed (bytes text)) (bytes out)
-holds (short text n) = came-to (read-call (bytes text) true (sevens n)) (Refused 9) (sevens n)
+holds (short text n) = came-to (read-call (bytes text) true (sevens n)) (9 ∷ []) (sevens n)
 
 pub T-cases-hold : Lists.each holds T-cases ≡ true
 unfolding T-cases holds bytes Lists.keep Lists.each Lists.has Lists.flat Words.same-words Text.allowed Text.white Text.name-byte Text.split Text.tokens Text.same-name Text.before-bar Text.after-bar Text.items-bad Text.written Text.name-of Text.place Text.entered Text.option-bad Text.first-bad Text.option-words Text.text-words Text.read-call Lists.tally Lists.run Problem.entry-count Problem.pairs Problem.cut-options Problem.parts Problem.cut Problem.count-pairs Problem.cut-refusal Problem.entry-fault Problem.option-fault Problem.options-fault Problem.fault Problem.pairs-kept Problem.sizes Problem.problem-refusal Problem.meant Order.has-item Order.agree Order.kept Order.place Order.placed Order.open-options Order.open-items Order.place-of Order.choices Order.least-from Order.pick Walk.solutions Walk.in-turn Cover.decimal-within Cover.line Cover.refusal-line Cover.opened Cover.printed
