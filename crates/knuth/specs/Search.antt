@@ -84,7 +84,7 @@ module _ {P : Problem} (G : Good P) {c : Placed} (mc : Mem c (placed P)) where
       late (no f) coloured = omega arith
 
   -- options with a primary item in common do not agree
-  clash : (o : List Entry) (i : ℕ) → i < P .np → Has (c .entries) i → Has o i → T (agree (c .entries) o) → ⊥
+  pub clash : (o : List Entry) (i : ℕ) → i < P .np → Has (c .entries) i → Has o i → T (agree (c .entries) o) → ⊥
   clash o i h (e, me, ie) (d, md, id) t = agree→ (c .entries) o t me md (ie ∙ sym id) .1 (plain G c mc e me (rw ie h))
 
 -- ---- chosen options

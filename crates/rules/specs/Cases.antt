@@ -1,5 +1,5 @@
--- Document 01's examples P1 to P12, by the calls and at the host door, as one list of data, and the theorem that the outcome functions give what
--- it says.
+-- Document 01's examples P1 to P12, by the calls and at the host door, as one list of data, and the theorem that the
+-- outcome functions give what it says.
 use mathlib.Core.Path.{_≡_, refl}
 use mathlib.Core.Bool.{Bool, true, false, _&&_}
 use mathlib.Core.List.{List, [], _∷_, _++_, map}
@@ -48,7 +48,8 @@ pub data Case : Type 0 where
   sets-up : List ℕ → List ℤ → Case
   -- set-up refuses the words with this number
   refuses : List ℕ → ℕ → Case
-  -- lent the words as bytes, a solution's number and an allowance, the door answers this number, and with 0 writes these options
+  -- lent the words as bytes, a solution's number and an allowance, the door answers this number, and with 0 writes
+  -- these options
   at-door : List ℕ → ℕ → ℕ → ℕ → List ℕ → Case
 
 P1-words : List ℕ

@@ -89,7 +89,8 @@ abbrev pub no-names : List (List ℕ) → Bool
 no-names [] = true
 no-names (t ∷ ts) = false
 
--- A second `|`, a `|` with no name after it, a name with any other byte, or a name that stands again. The flag says that a `|` is passed.
+-- A second `|`, a `|` with no name after it, a name with any other byte, or a name that stands again. The flag says
+-- that a `|` is passed.
 unfoldable pub items-bad : Bool → List (List ℕ) → Bool
 items-bad second [] = false
 items-bad second (t ∷ ts) =
@@ -167,8 +168,8 @@ as-entered I (some w) =
 unfoldable pub entered : Items → List ℕ → Option Entry
 entered I t = as-entered I (written t)
 
--- a token that stands for no entry, or an item that stands again: "The crate compares whole tokens, so `s:a s:b` in one option passes there;
--- here it is 13."
+-- a token that stands for no entry, or an item that stands again: "The crate compares whole tokens, so `s:a s:b` in
+-- one option passes there; here it is 13."
 unfoldable pub option-bad : Items → List (List ℕ) → Bool
 option-bad I [] = false
 option-bad I (t ∷ ts) = not (got (entered I t)) || has (same-name (name-of t)) (map name-of ts) || option-bad I ts
@@ -214,8 +215,8 @@ words-of front (i ∷ o ∷ os) = some (text-words (items-of front i) (o ∷ os)
 
 -- ---- the reader
 
--- The number and values of each answer, in the order in which a refusal prints them: 0 and how many words were written; 13 and the line; else
--- the refusal's number, 3 or 9, which has no value.
+-- The number and values of each answer, in the order in which a refusal prints them: 0 and how many words were
+-- written; 13 and the line; else the refusal's number, 3 or 9, which has no value.
 abbrev pub read-said : Reading → List ℕ
 read-said (Words n) = 0 ∷ n ∷ []
 read-said (Faulty line) = 13 ∷ line ∷ []

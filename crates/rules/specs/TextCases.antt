@@ -97,7 +97,8 @@ came-to o said ws = same-name (read-said (o .answer)) said && same-words (o .wor
 abbrev sevens : ℕ → List ℤ
 sevens n = replicate n (pos 7)
 
--- The lent list holds sevens. It has room for the words and one more, and a fault is found before a list of one word is too short.
+-- The lent list holds sevens. It has room for the words and one more, and a fault is found before a list of one word
+-- is too short.
 unfoldable pub holds : Case → Bool
 unfolding bytes
 holds (reads front text ns) =
