@@ -1,6 +1,6 @@
 -- The list of all solutions holds each solution once, and nothing else.
 use mathlib.Core.Path.{_≡_, refl, sym, ap, _∙_}
-use mathlib.Core.Logic.{_⊎_, inl, inr, _≢_}
+use mathlib.Core.Logic.{_⊎_, inl, inr, _≢_, _↔_}
 use mathlib.Core.Bool.{Bool, true, false, not, _||_}
 use mathlib.Core.Option.{Option, none, some}
 use mathlib.Core.List.{List, [], _∷_, List·Memᴰ as Mem, List·Memᴰ·head as here, List·Memᴰ·tail as there}
@@ -82,6 +82,9 @@ module _ {P : Problem} (G : Good P) {c : Placed} (mc : Mem c (placed P)) where
       late : Dec (e .item < P .np) → e .colour ≢ 0 → P .np ≤ e .item
       late (yes h) coloured = absurd (coloured (plain G c mc e m h))
       late (no f) coloured = omega arith
+
+  pub agree-exactly : (es : List Entry) → T (agree (c .entries) es) ↔ Agree (P .np) (c .entries) es
+  agree-exactly es = (agree-is, is-agree (P .np))
 
   -- options with a primary item in common do not agree
   pub clash : (o : List Entry) (i : ℕ) → i < P .np → Has (c .entries) i → Has o i → T (agree (c .entries) o) → ⊥

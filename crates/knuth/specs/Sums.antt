@@ -19,7 +19,8 @@ use Rattle.knuth.specs.Twice.{table-twice, path-twice, counted-twice}
 use Rattle.knuth.specs.Trace.{joined, go-on-from}
 use Rattle.knuth.specs.Adds.{resume-adds}
 use Rattle.knuth.specs.Ends.{reached-deep, Ends, resume-ends}
-use Rattle.knuth.specs.Series.{next-refusal, problem, with-visits, then-call-from, then-call}
+use Rattle.rules.specs.Calls.{next-refusal}
+use Rattle.knuth.specs.Series.{problem, with-visits, then-call-from, then-call}
 use Rattle.knuth.specs.Stands.{Stands, accepted→, next-walked, next-stands, walk-of, walk-ended}
 
 answer-visits : (e : End) (st : State) (n k : ℕ) → with-visits n (next-answer e st k) ≡ next-answer e st (n + k)

@@ -199,8 +199,12 @@ set-up-as zero P l = record {
   };
 }
 
+-- the number that Set-up refuses with, 0 for none
+abbrev pub set-up-refusal : Limits → List ℤ → SetUpLent → ℕ
+set-up-refusal L ws l = problem-refusal L 1 (set-up-room l) ws
+
 unfoldable pub set-up-call : Limits → List ℤ → SetUpLent → SetUpOutcome
-set-up-call L ws l = set-up-as (problem-refusal L 1 (set-up-room l) ws) (meant (cut ws)) l
+set-up-call L ws l = set-up-as (set-up-refusal L ws l) (meant (cut ws)) l
 
 -- ---- Next
 
@@ -268,11 +272,14 @@ next-as (suc k) P l st at a = record {
 }
 next-as zero P l st at a = walked P l st (resume P (pick P) a (st .phase) (levels-or-top at))
 
+abbrev pub next-refusal : Limits → List ℤ → NextLent → State → ℕ
+next-refusal L ws l st =
+    search-refusal L (next-room l) ws (counts-fit st (take (cut ws .np) (l .profile)))
+    (lent-point (cut ws) st (l .table) (l .path))
+
 unfoldable pub next-call : Limits → List ℤ → NextLent → State → ℕ → NextOutcome
 next-call L ws l st a =
-    let C : Cut = cut ws in
-    let at : Option (List Level) = lent-point C st (l .table) (l .path) in
-    next-as (search-refusal L (next-room l) ws (counts-fit st (take (C .np) (l .profile))) at) (meant C) l st at a
+    next-as (next-refusal L ws l st) (meant (cut ws)) l st (lent-point (cut ws) st (l .table) (l .path)) a
 
 -- ---- Give-up
 
@@ -308,10 +315,12 @@ give-up-as zero P l st = record {
   };
 }
 
+abbrev pub give-up-refusal : Limits → List ℤ → GiveUpLent → State → ℕ
+give-up-refusal L ws l st =
+    search-refusal L (give-up-room l) ws (counts-fit st []) (lent-point (cut ws) st (l .table) (l .path))
+
 unfoldable pub give-up-call : Limits → List ℤ → GiveUpLent → State → GiveUpOutcome
-give-up-call L ws l st =
-    let C : Cut = cut ws in
-    give-up-as (search-refusal L (give-up-room l) ws (counts-fit st []) (lent-point C st (l .table) (l .path))) (meant C) l st
+give-up-call L ws l st = give-up-as (give-up-refusal L ws l st) (meant (cut ws)) l st
 
 -- ---- Report
 

@@ -48,8 +48,7 @@ pub data Case : Type 0 where
   sets-up : List ℕ → List ℤ → Case
   -- set-up refuses the words with this number
   refuses : List ℕ → ℕ → Case
-  -- lent the words as bytes, a solution's number and an allowance, the door answers this number, and with 0 writes
-  -- these options
+  -- lent the words as bytes, a solution's number and an allowance, the door answers this number, and writes these bytes
   at-door : List ℕ → ℕ → ℕ → ℕ → List ℕ → Case
 
 P1-words : List ℕ
@@ -132,28 +131,29 @@ P-cases =
     ∷ refuses P11-words 6
     ∷ refuses P12-words 7
     -- at the door: P1's one solution takes 5 visits, and so does the whole tree
-    ∷ at-door P1-words 0 5 0 (3 ∷ 4 ∷ 0 ∷ [])
+    ∷ at-door P1-words 0 5 0 (3 ∷ 0 ∷ 0 ∷ 0 ∷ 3 ∷ 0 ∷ 0 ∷ 0 ∷ 4 ∷ 0 ∷ 0 ∷ 0 ∷ 0 ∷ 0 ∷ 0 ∷ 0 ∷ [])
     ∷ at-door P1-words 0 4 21 []
     ∷ at-door P1-words 1 5 20 []
     -- P2
-    ∷ at-door P1-words 1 2 21 []
+    ∷ at-door P1-words 0 2 21 []
+    ∷ at-door P1-words 0 0 21 []
     -- P3: after its one solution the door does not start over
-    ∷ at-door P3-words 0 1 0 (0 ∷ [])
+    ∷ at-door P3-words 0 1 0 (1 ∷ 0 ∷ 0 ∷ 0 ∷ 0 ∷ 0 ∷ 0 ∷ 0 ∷ [])
     ∷ at-door P3-words 0 0 21 []
     ∷ at-door P3-words 2 9 20 []
     -- P4
-    ∷ at-door P4-words 1 1 0 (1 ∷ [])
+    ∷ at-door P4-words 1 1 0 (1 ∷ 0 ∷ 0 ∷ 0 ∷ 1 ∷ 0 ∷ 0 ∷ 0 ∷ [])
     ∷ at-door P4-words 2 1 20 []
     -- P5
     ∷ at-door P5-words 0 1 20 []
     ∷ at-door P5-words 0 0 21 []
     -- P6
-    ∷ at-door P6-words 0 2 0 (0 ∷ 1 ∷ [])
+    ∷ at-door P6-words 0 2 0 (2 ∷ 0 ∷ 0 ∷ 0 ∷ 0 ∷ 0 ∷ 0 ∷ 0 ∷ 1 ∷ 0 ∷ 0 ∷ 0 ∷ [])
     ∷ at-door P6-words 1 2 20 []
     -- P7
     ∷ at-door P7-words 0 2 20 []
     -- P8
-    ∷ at-door P8-words 0 1 0 (1 ∷ [])
+    ∷ at-door P8-words 0 1 0 (1 ∷ 0 ∷ 0 ∷ 0 ∷ 1 ∷ 0 ∷ 0 ∷ 0 ∷ [])
     -- P9
     ∷ at-door P9-words 0 1 20 []
     -- P10, P11, P12
@@ -258,14 +258,6 @@ set-up-is C o k t p f =
     && holds-words (o .lent .path) p
     && holds-words (counts (o .lent .profile)) f
 
--- the depth and the option numbers over the front, if the answer is 0; else nothing is written
-abbrev door-wrote : ℕ → List ℕ → List ℕ → List ℕ
-door-wrote zero o out = Lists.over (Lists.flat Words.word-bytes (length o ∷ o)) out
-door-wrote (suc r) o out = out
-
-abbrev door-is : DoorOutcome → ℕ → List ℕ → Bool
-door-is o r bytes = eqb (o .result) r && same-words (counts (o .out)) (counts bytes)
-
 unfoldable pub holds : Case → Bool
 holds (calls ns cs) =
     let C : Cut = cut (counts ns) in
@@ -279,9 +271,10 @@ holds (refuses ns k) =
     let C : Cut = cut (counts ns) in
     let old : List ℤ = replicate (C .np) (pos 7) in
     set-up-is C (set-up-call library-limits (counts ns) (blank-lent C)) k (replicate (table-length (sizes C)) (pos 7)) old old
-holds (at-door ns k a r o) =
+holds (at-door ns k a r bytes) =
     let out : List ℕ = replicate (4 + 4 * cut (counts ns) .np + 1) 7 in
-    door-is (door-call (Lists.flat Words.word-bytes ns) k a out) r (door-wrote r o out)
+    let o : DoorOutcome = door-call (Lists.flat Words.word-bytes ns) k a out in
+    eqb (o .result) r && same-words (counts (o .out)) (counts (Lists.over bytes out))
 
 -- P1 to P12 are as document 01 says.
 pub P-cases-hold : Lists.each holds P-cases ≡ true

@@ -92,7 +92,7 @@ T-cases =
 
 -- the answer has this number and these values, and the list holds these words
 abbrev came-to : ReadOutcome → List ℕ → List ℤ → Bool
-came-to o said ws = same-name (read-said (o .answer)) said && same-words (o .words) ws
+came-to o said ws = same-words (map pos (read-said (o .answer))) (map pos said) && same-words (o .words) ws
 
 abbrev sevens : ℕ → List ℤ
 sevens n = replicate n (pos 7)
