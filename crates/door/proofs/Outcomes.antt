@@ -22,7 +22,7 @@ use Rattle.rules.specs.Words.{bytes-words, word-bytes}
 use Rattle.rules.specs.Problem.{Problem, door-limits, cut, meant, sizes, table-length, fault, need, first-of, judged, verdict, cut-refusal, problem-refusal}
 use Rattle.rules.specs.Order.{pick}
 use Rattle.rules.specs.Walk.{Walk, End, solution, exhausted, paused, numbers}
-use Rattle.rules.specs.Calls.{moved, next-answer, next-said, end-number}
+use Rattle.rules.specs.Calls.{next-answer, next-said, end-number}
 use Rattle.rules.specs.Door.{DoorOutcome, walk-to, door-room, door-refusal, door-out, door-walked, door-as, door-call}
 use Rattle.words.specs.Read.{Natural}
 use Rattle.problem.specs.Measured.{Within, within, table-bounds, judged-sized, judged-refused, first-some}
@@ -30,7 +30,7 @@ use Rattle.problem.specs.Room.{room, served, served-all, Accepted, accepted}
 use Rattle.laws.specs.Reached.{in-order-length}
 use Rattle.search.specs.Points.{On}
 use Rattle.search.specs.Depth.{level-within}
-use Rattle.search.specs.Arrived.{Arrived, solved, on-level}
+use Rattle.search.specs.Arrived.{Arrived, arrived-at, on-level}
 use Rattle.door.specs.Solved.{lists-of}
 use Rattle.door.proofs.Written.{firsts, firsts-are}
 
@@ -126,10 +126,11 @@ module _ (problem : List ℕ) (number allowance : ℕ) (out : List ℕ) where
 
 -- ---- what a walk comes to
 
-module _ {P : Problem} {n : ℕ} {w : Walk} {visited profile : List ℕ} {t path : List ℤ} {profile′ : List ℕ} {r : NextAnswer} (A : Arrived P n w visited profile t path profile′ r) where
+module _ {P : Problem} {n : ℕ} {w whole : Walk} {profile : List ℕ} {t path : List ℤ} {profile′ : List ℕ}
+    {r : NextAnswer} (A : Arrived P n w whole profile t path profile′ r) where
   module _ {at : State} {v depth : ℕ} (q : r ≡ NextSays.Solution at v) (d : depth ≡ at .depth) where
     is-depth : depth ≡ length (w .at)
-    is-depth = d ∙ ap (λ (x : State). x .depth) (solved w (A .from) (A .answer) q .1)
+    is-depth = d ∙ arrived-at A q .1
 
     pub on-depth : On P n (w .at) t path depth
     on-depth = on-level (A .on) is-depth
@@ -151,7 +152,7 @@ module _ {P : Problem} {n : ℕ} {w : Walk} {visited profile : List ℕ} {t path
 
       pub ends-solved : (out : List ℕ) {out′ : List ℕ} → out′ ≡ over (flat word-bytes (depth ∷ firsts found depth)) out → record { result = 0; out = out′ } ≡ door-walked w out
       ends-solved out {out′} u =
-          let e = solved w (A .from) (A .answer) q .0 in
+          let e = arrived-at A q .0 in
           let i : firsts found depth ≡ numbers (w .at) = ap (λ (k : ℕ). firsts found k) (sym as-many) ∙ firsts-are (numbers (w .at)) old f in
           let o : out′ ≡ over (flat word-bytes (length (w .at) ∷ numbers (w .at))) out =
           u ∙ ap (λ (l : List ℕ). over (flat word-bytes (depth ∷ l)) out) i ∙ ap (λ (k : ℕ). over (flat word-bytes (k ∷ numbers (w .at))) out) is-depth in
@@ -159,7 +160,7 @@ module _ {P : Problem} {n : ℕ} {w : Walk} {visited profile : List ℕ} {t path
 
   -- any other answer's number, and nothing written
   pub ends-other : {k : ℕ} (out : List ℕ) → k ≡ next-said r .number → ((at : State) (v : ℕ) → r ≡ NextSays.Solution at v → ⊥) → record { result = k; out = out } ≡ door-walked w out
-  ends-other {k} out e other = by (w .end) (moved (A .from) w) (length (w .visited)) (A .answer)
+  ends-other {k} out e other = by (w .end) _ (length (w .visited)) (A .answer)
     where
       by : (x : End) (st : State) (v : ℕ) → r ≡ next-answer x st v → _≡_ {A = DoorOutcome} (record { result = k; out = out }) (record { result = end-number x; out = door-out x (w .at) out })
       by solution st v p = absurd (other st v p)

@@ -1,7 +1,7 @@
 // Set-up: the fresh table of a problem whose words passed the test, under the Rust's names. `items` and `opts` have what `lib.rs` has in the
 // traits of these names.
-pub mod items;
-pub mod opts;
+mod items;
+mod opts;
 
 ghost use mathlib.Core.Path.{_≡_};
 ghost use Prim.Native.Nat.{_<_};

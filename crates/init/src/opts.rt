@@ -98,7 +98,7 @@ fn end_option(t: &mut [i32], n: usize, number: usize, p: usize, k: usize)
 
 // The option of k entries at p goes after the spacer `last`, if it is kept. The result is the last spacer then. A skipped option keeps its
 // place in the numbering, so `number` options came before this one.
-pub fn append_option(
+fn append_option(
     t: &mut [i32],
     n: usize,
     number: usize,

@@ -50,9 +50,7 @@ module _ {P : Problem} {n : ℕ} {s : List Level} {v : Level} {t : List ℤ} {i 
       reached = M .reached;
       is = E .is ∙ rw (cover-made (D .is), M .at .n-is) (sym (table-is P (M .at .good) (M .at .small) (M .reached)));
     };
-    counts = λ u.
-        let q : capped u r ≡ capped u (cost (touch P (held (made s)) (bare (own (v .tried) .item))) + cost (try P (held (made s)) (v .tried))) = omega (arith, D .counts, E .counts) in
-        q ∙ ap (λ (k : ℕ). capped u k) (sym (price-is P (M .at .good) (M .at .small) (M .reached)));
+    counts = omega (arith, D .counts, E .counts, price-is P (M .at .good) (M .at .small) (M .reached));
   }
 
 -- ---- `restore_item`
@@ -356,5 +354,5 @@ module _ {P : Problem} {n : ℕ} {s : List Level} {j : ℕ} {t path : List ℤ} 
         path-is = f ∙ rw (K .on .path-is, K .on .level, F .node-is) (path-more (P .np) (F .v) s (room (F .reached)));
         level = refl;
       };
-      counts = T .counts;
+      counts = λ u. omega (arith, T .counts);
     })

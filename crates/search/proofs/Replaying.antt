@@ -19,14 +19,14 @@ use Rattle.rules.specs.Problem.{Problem}
 use Rattle.rules.specs.Order.{Choice, node, pick, choices, open-options}
 use Rattle.rules.specs.Links.{held, first-or}
 use Rattle.rules.specs.Walk.{Level, made, chosen}
-use Rattle.rules.specs.Calls.{level-of, deeper, taken, levels}
+use Rattle.rules.specs.Calls.{level-of, taken}
 use Rattle.laws.specs.Reached.{level-at}
 use Rattle.tables.specs.Shows.{view}
 use Rattle.words.specs.Read.{Natural, Link}
 use Rattle.links.specs.Moves.{InList, IsHeader}
 use Rattle.search.specs.Begun.{level-node}
 use Rattle.search.specs.Points.{At, Picked, Trying, Last}
-use Rattle.search.specs.Replays.{Trailed, meant-by, Stepped, Followed, Replayed}
+use Rattle.search.specs.Replays.{Trailed, meant-by, Stepped, Followed, go-on, follows}
 use Rattle.search.proofs.Moving.{ways-list, item-list, header-list, way-reached, way-header, way-other}
 
 -- ---- `is_listed`
@@ -135,21 +135,12 @@ module _ (P : Problem) (s : List Level) {path : List ℤ} {l q : ℕ} (k : Link 
 
 -- ---- `replay`
 
-levels-word : (P : Problem) (z : ℤ) (zs : List ℤ) (s : List Level) → levels P (pick P) (z ∷ zs) s ≡ deeper (meant-by P s z) s (λ t. levels P (pick P) zs t)
-unfolding levels
-levels-word P (pos q) zs s = refl
-levels-word P (negsuc q) zs s = refl
-
-levels-end : (P : Problem) (s : List Level) → levels P (pick P) [] s ≡ some s
-unfolding levels
-levels-end P s = refl
-
 -- the choices of the path's first l words are made, and lead to the point s
 pub record Replaying (P : Problem) (n depth : ℕ) (t path : List ℤ) (l : ℕ) : Type 0 where
   pub s : List Level
   pub on : Trailed P n s t path l
   pub within : l ≤ depth
-  pub same : levels P (pick P) (take depth path) [] ≡ levels P (pick P) (drop l (take depth path)) s
+  pub same : follows P (take depth path) [] ≡ follows P (drop l (take depth path)) s
 
 pub replay-start : {P : Problem} {n depth : ℕ} {t path : List ℤ} → At P n [] t → Replaying P n depth t path 0
 replay-start A = record { s = []; on = record { at = A; trail = tt; level = refl }; within = omega arith; same = refl }
@@ -160,8 +151,13 @@ next-word path depth l h k =
     rw (add-one l) (drop-cons (take depth path) l (pos 0) m ∙ ap (λ (z : ℤ). z ∷ drop (suc l) (take depth path)) (getD-take depth path l (pos 0) k))
 
 module _ {P : Problem} {n depth : ℕ} {t path : List ℤ} {l : ℕ} (R : Replaying P n depth t path l) (h : depth ≤ length path) (k : l < depth) where
-  next-is : levels P (pick P) (take depth path) [] ≡ deeper (meant-by P (R .s) (word path l)) (R .s) (λ t. levels P (pick P) (drop (l + 1) (take depth path)) t)
-  next-is = R .same ∙ ap (λ (x : List ℤ). levels P (pick P) x (R .s)) (next-word path depth l h k) ∙ levels-word P (word path l) (drop (l + 1) (take depth path)) (R .s)
+  -- the levels from here on, by what the word at l means
+  next-is : {o : Option Level} → meant-by P (R .s) (word path l) ≡ o
+      → follows P (take depth path) [] ≡ go-on o (R .s) (λ t. follows P (drop (l + 1) (take depth path)) t)
+  unfolding follows
+  next-is e =
+      R .same ∙ ap (λ (x : List ℤ). follows P x (R .s)) (next-word path depth l h k)
+      ∙ ap (λ (o : Option Level). go-on o (R .s) (λ t. follows P (drop (l + 1) (take depth path)) t)) e
 
   pub replay-on : (b : Bool) (t′ : List ℤ) → Followed P n (R .s) path l t′ b → b ≡ true → Replaying P n depth t′ path (l + 1)
   replay-on true t′ F e =
@@ -170,28 +166,23 @@ module _ {P : Problem} {n depth : ℕ} {t path : List ℤ} {l : ℕ} (R : Replay
         s = F .v ∷ R .s;
         on = record { at = F .at; trail = (rw (sym f) (omega arith), rw (sym f) (F .node-is), R .on .trail); level = omega arith };
         within = omega arith;
-        same = next-is ∙ ap (λ (r : Option Level). deeper r (R .s) (λ t. levels P (pick P) (drop (l + 1) (take depth path)) t)) (F .meant);
+        same = next-is (F .meant);
       }
   replay-on false t′ F e = absurd (let z : _≡_ {A = ℕ} 0 1 = cc in omega arith)
 
-  pub replay-stop : (b : Bool) (t′ : List ℤ) → Followed P n (R .s) path l t′ b → b ≡ false → Replayed P n depth t′ path l
+  pub replay-stop : (b : Bool) (t′ : List ℤ) → Followed P n (R .s) path l t′ b → b ≡ false
+      → Trailed P n (follows P (take depth path) []) t′ path l
   replay-stop true t′ F e = absurd (let z : _≡_ {A = ℕ} 0 1 = cc in omega arith)
-  replay-stop false t′ F e = record {
-    s = R .s;
-    on = record { at = F .at; trail = R .on .trail; level = R .on .level };
-    whole = λ u. absurd (omega arith);
-    broken = λ u. next-is ∙ ap (λ (r : Option Level). deeper r (R .s) (λ t. levels P (pick P) (drop (l + 1) (take depth path)) t)) (F .meant);
-    within = R .within;
-  }
+  replay-stop false t′ F e =
+      rw (next-is (F .meant)) (record { at = F .at; trail = R .on .trail; level = R .on .level })
 
-pub replay-end : {P : Problem} {n depth : ℕ} {t path : List ℤ} {l : ℕ} → Replaying P n depth t path l → depth ≤ l → Replayed P n depth t path l
-replay-end {P} {n} {depth} {t} {path} {l} R h = record {
-  s = R .s;
-  on = R .on;
-  whole = λ u. R .same ∙ ap (λ (x : List ℤ). levels P (pick P) x (R .s)) (drop-of-length-le (take depth path) {i = l} (omega (arith, length-take depth path))) ∙ levels-end P (R .s);
-  broken = λ u. absurd (omega arith);
-  within = R .within;
-}
+pub replay-end : {P : Problem} {n depth : ℕ} {t path : List ℤ} {l : ℕ} → Replaying P n depth t path l → depth ≤ l
+    → Trailed P n (follows P (take depth path) []) t path l
+unfolding follows
+replay-end {P} {n} {depth} {t} {path} {l} R h =
+    let h : length (take depth path) ≤ l = omega (arith, length-take depth path) in
+    let e : drop l (take depth path) ≡ [] = drop-of-length-le (take depth path) {i = l} h in
+    rw (R .same ∙ ap (λ (x : List ℤ). follows P x (R .s)) e) (R .on)
 
 -- ---- `undo`
 

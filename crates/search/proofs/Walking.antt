@@ -1,8 +1,8 @@
 -- The walk to a solution, solution by solution. Assumes nothing.
 use mathlib.Core.Path.{_≡_, refl, sym, ap, _∙_}
 use mathlib.Core.Option.{Option, none, some}
-use mathlib.Core.List.{List, [], _∷_, _++_, append-nil}
-use Prim.Native.Nat.{ℕ, zero, suc, _-_, _≤_, _<_}
+use mathlib.Core.List.{List, [], _∷_}
+use Prim.Native.Nat.{ℕ, zero, suc, _+_, _-_, _≤_, _<_}
 use native.Mathlib.Omega.{arith}
 use denote.Enum.Declared as Declared
 use lib.IntN.{ℤ}
@@ -21,7 +21,7 @@ use Rattle.rules.specs.Calls.{cap, capped, profile-from, blank, started}
 use Rattle.rules.specs.Door.{past, walk-to}
 use Rattle.problem.specs.CutLaws.{cannot}
 use Rattle.search.specs.Points.{On, Profile, Ran, Begun}
-use Rattle.search.specs.Arrived.{later, visits-to, Arrived, solved, unsolved, on-level}
+use Rattle.search.specs.Arrived.{joined, whole-to, Arrived, solved, unsolved, on-level}
 use Rattle.search.proofs.Running.{profile-fits, profile-then}
 
 -- ---- the allowance
@@ -57,69 +57,98 @@ module _ (P : Problem) (rule : Rule) (k a : ℕ) (ph : Phase) (s : List Level) w
   abbrev first : Walk
   first = resume P rule a ph s
 
-  -- the first walk is the whole
+  -- the first walk is the last one, and the whole
   abbrev Whole : Type 0
-  Whole = (walk-to P rule k a ph s ≡ first) × (visits-to P rule k a ph s ≡ first .visited)
+  Whole = (walk-to P rule k a ph s ≡ first) × (whole-to P rule k a ph s ≡ first)
 
   walk-last : k ≡ 0 → Whole
-  unfolding walk-to visits-to
+  unfolding walk-to whole-to
   walk-last z = (rw z refl, rw z refl)
 
 -- where it ended at a solution, the next one begins there
 walk-on : (P : Problem) (rule : Rule) (k a : ℕ) (ph : Phase) (s : List Level) → 0 < k → first P rule k a ph s .end ≡ solution
     → let w : Walk = first P rule k a ph s in
-    (walk-to P rule k a ph s ≡ walk-to P rule (k - 1) (a - length (w .visited)) Solution (w .at))
-    × (visits-to P rule k a ph s ≡ w .visited ++ visits-to P rule (k - 1) (a - length (w .visited)) Solution (w .at))
-unfolding walk-to visits-to
+    let b : ℕ = a - length (w .visited) in
+    (walk-to P rule k a ph s ≡ walk-to P rule (k - 1) b Solution (w .at))
+    × (whole-to P rule k a ph s ≡ joined w (whole-to P rule (k - 1) b Solution (w .at)))
+unfolding walk-to whole-to
 walk-on P rule zero a ph s z e = absurd (omega arith)
 walk-on P rule (suc k) a ph s z e =
     let w : Walk = resume P rule a ph s in
     let b : ℕ = a - length (w .visited) in
     let u : k ≡ suc k - 1 = omega arith in (
-      ap (λ (x : End). past x w (λ t. walk-to P rule k b Solution t)) e ∙ ap (λ (i : ℕ). walk-to P rule i b Solution (w .at)) u,
-      ap (λ (x : End). w .visited ++ later x (visits-to P rule k b Solution (w .at))) e ∙ ap (λ (i : ℕ). w .visited ++ visits-to P rule i b Solution (w .at)) u,
+      ap (λ (x : End). past x w (λ t. walk-to P rule k b Solution t)) e
+          ∙ ap (λ (i : ℕ). walk-to P rule i b Solution (w .at)) u,
+      ap (λ (x : End). past x w (λ t. joined w (whole-to P rule k b Solution t))) e
+          ∙ ap (λ (i : ℕ). joined w (whole-to P rule i b Solution (w .at))) u,
     )
 
-walk-stop : (P : Problem) (rule : Rule) (k a : ℕ) (ph : Phase) (s : List Level) → (first P rule k a ph s .end ≡ solution → ⊥) → Whole P rule k a ph s
-unfolding walk-to visits-to
+walk-stop : (P : Problem) (rule : Rule) (k a : ℕ) (ph : Phase) (s : List Level)
+    → (first P rule k a ph s .end ≡ solution → ⊥) → Whole P rule k a ph s
+unfolding walk-to whole-to
 walk-stop P rule zero a ph s n = (refl, refl)
-walk-stop P rule (suc k) a ph s n = by (resume P rule a ph s) (resume P rule a ph s .end) n
+walk-stop P rule (suc k) a ph s n =
+    (by (w .end) n (λ t. walk-to P rule k b Solution t), by (w .end) n (λ t. joined w (whole-to P rule k b Solution t)))
   where
-    by : (w : Walk) (e : End) → (e ≡ solution → ⊥)
-        → (past e w (λ t. walk-to P rule k (a - length (w .visited)) Solution t) ≡ w)
-        × (w .visited ++ later e (visits-to P rule k (a - length (w .visited)) Solution (w .at)) ≡ w .visited)
-    by w solution n = absurd (n refl)
-    by w exhausted n = (refl, append-nil (w .visited))
-    by w paused n = (refl, append-nil (w .visited))
+    w : Walk
+    w = resume P rule a ph s
+
+    b : ℕ
+    b = a - length (w .visited)
+
+    by : (e : End) → (e ≡ solution → ⊥) → (later : List Level → Walk) → past e w later ≡ w
+    by solution n later = absurd (n refl)
+    by exhausted n later = refl
+    by paused n later = refl
 
 -- ---- the loop
 
--- the walk to the solution asked for is the walk from here to one `ahead` solutions on
-pub record Walking (P : Problem) (n number allowance : ℕ) (profile₀ : List ℕ) (t path : List ℤ) (profile : List ℕ) (state : State) (left ahead : ℕ) : Type 0 where
+-- The walk to the solution asked for is the walk from here to one `ahead` solutions on. Updates and profile come to the
+-- same from here.
+pub record Walking (P : Problem) (n number allowance : ℕ) (profile₀ : List ℕ) (t path : List ℤ) (profile : List ℕ)
+    (state : State) (left ahead : ℕ) : Type 0 where
   pub s : List Level
   pub begun : Begun P n s t path state
   pub counts : Profile (length path) profile
   pub small : state .updates ≤ cap
   pub same : walk-to P (pick P) number allowance Ready [] ≡ walk-to P (pick P) ahead left (state .phase) s
-  pub told : profile-from 0 (visits-to P (pick P) number allowance Ready []) profile₀ ≡ profile-from 0 (visits-to P (pick P) ahead left (state .phase) s) profile
+  pub sum :
+      capped 0 (whole-to P (pick P) number allowance Ready [] .updates)
+      ≡ capped (started state .updates) (whole-to P (pick P) ahead left (state .phase) s .updates)
+  pub told :
+      profile-from 0 (whole-to P (pick P) number allowance Ready [] .visited) profile₀
+      ≡ profile-from 0 (whole-to P (pick P) ahead left (state .phase) s .visited) profile
 
-pub walk-start : {P : Problem} {n : ℕ} (number allowance : ℕ) {t path : List ℤ} {profile : List ℕ} → On P n [] t path 0 → Profile (length path) profile
-    → {state : State} → state ≡ blank → Walking P n number allowance profile t path profile state allowance number
-walk-start number allowance O p e = rw e (record { s = []; begun = record { on = O; done-top = λ e. refl }; counts = p; small = omega arith; same = refl; told = refl })
+pub walk-start : {P : Problem} {n : ℕ} (number allowance : ℕ) {t path : List ℤ} {profile : List ℕ} → On P n [] t path 0
+    → Profile (length path) profile → {state : State} → state ≡ blank
+    → Walking P n number allowance profile t path profile state allowance number
+walk-start number allowance O p e = rw e (record {
+  s = [];
+  begun = record { on = O; done-top = λ e. refl };
+  counts = p;
+  small = omega arith;
+  same = refl;
+  sum = refl;
+  told = refl;
+})
 
-module _ {P : Problem} {n number allowance : ℕ} {profile₀ : List ℕ} {t path : List ℤ} {profile : List ℕ} {state : State} {left ahead : ℕ} (W : Walking P n number allowance profile₀ t path profile state left ahead) where
+module _ {P : Problem} {n number allowance : ℕ} {profile₀ : List ℕ} {t path : List ℤ} {profile : List ℕ} {state : State}
+    {left ahead : ℕ} (W : Walking P n number allowance profile₀ t path profile state left ahead) where
   abbrev pub piece : Walk
   piece = resume P (pick P) left (state .phase) (W .s)
 
   -- where the walk to the solution asked for arrives
   abbrev pub Arrives : List ℤ → List ℤ → List ℕ → NextAnswer → Type 0
-  Arrives t′ path′ profile′ r = Arrived P n (walk-to P (pick P) number allowance Ready []) (visits-to P (pick P) number allowance Ready []) profile₀ t′ path′ profile′ r
+  Arrives t′ path′ profile′ r =
+      Arrived P n (walk-to P (pick P) number allowance Ready []) (whole-to P (pick P) number allowance Ready [])
+      profile₀ t′ path′ profile′ r
 
   module _ {t′ path′ : List ℤ} {profile′ : List ℕ} {r : NextAnswer} (R : Ran P n piece (started state) profile t′ path′ profile′ r) where
     arrives : Whole P (pick P) ahead left (state .phase) (W .s) → Arrives t′ path′ profile′ r
     arrives (e, u) =
-        let v = R .profile-is ∙ sym (W .told ∙ ap (λ (l : List ℕ). profile-from 0 l profile) u) in
-        rw (W .same ∙ e) (record { from = started state; answer = R .answer; on = R .on; profile-is = v })
+        let p = W .sum ∙ ap (λ (w : Walk). capped (started state .updates) (w .updates)) u in
+        let v = W .told ∙ ap (λ (w : Walk). profile-from 0 (w .visited) profile) u in
+        rw (W .same ∙ e) (record { answer = rw p (R .answer); on = R .on; profile-is = R .profile-is ∙ sym v })
 
     pub walk-ends : ahead ≡ 0 → Arrives t′ path′ profile′ r
     walk-ends z = arrives (walk-last P (pick P) ahead left (state .phase) (W .s) z)
@@ -132,14 +161,18 @@ module _ {P : Problem} {n number allowance : ℕ} {profile₀ : List ℕ} {t pat
       visits-few = omega (arith, solved piece (started state) (R .answer) q .2, resume-few P (pick P) left (state .phase) (W .s))
 
       pub walk-turns : (ahead ≡ 0 → ⊥) → length path′ ≡ length path
-          → Walking P n number allowance profile₀ t′ path′ profile′ (record { phase = Solution; depth = at .depth; updates = at .updates }) (left - v) (ahead - 1)
+          → Walking P n number allowance profile₀ t′ path′ profile′
+          (record { phase = Solution; depth = at .depth; updates = at .updates }) (left - v) (ahead - 1)
       walk-turns z l =
           let (e, a, u) = solved piece (started state) (R .answer) q in
           let d : at .depth ≡ length (piece .at) = ap (λ (x : State). x .depth) a in
           let b : at .updates ≡ capped (started state .updates) (piece .updates) = ap (λ (x : State). x .updates) a in
           let c : Profile (length path) profile′ = rw (R .profile-is) (profile-fits (piece .visited) (W .counts)) in
           let (o, p) = walk-on P (pick P) ahead left (state .phase) (W .s) (omega arith) e in
-          let next : ℕ → List ℕ = λ i. visits-to P (pick P) (ahead - 1) (left - i) Solution (piece .at) in
+          let next : ℕ → Walk = λ i. whole-to P (pick P) (ahead - 1) (left - i) Solution (piece .at) in
+          let more : Walk = next (length (piece .visited)) in
+          let f : capped (started state .updates) (piece .updates + more .updates)
+          ≡ capped (at .updates) (more .updates) = omega arith in
           record {
             s = piece .at;
             begun = record { on = on-level (R .on) d; done-top = λ e′. cannot (cc) };
@@ -148,9 +181,12 @@ module _ {P : Problem} {n number allowance : ℕ} {profile₀ : List ℕ} {t pat
             same =
                 W .same ∙ o
                 ∙ ap (λ (i : ℕ). walk-to P (pick P) (ahead - 1) (left - i) Solution (piece .at)) (sym u);
+            sum =
+                W .sum ∙ ap (λ (w : Walk). capped (started state .updates) (w .updates)) p ∙ f
+                ∙ ap (λ (i : ℕ). capped (at .updates) (next i .updates)) (sym u);
             told =
-                W .told ∙ ap (λ (k : List ℕ). profile-from 0 k profile) p
-                ∙ profile-then (piece .visited) (next (length (piece .visited))) (W .counts)
-                ∙ ap (profile-from 0 (next (length (piece .visited)))) (sym (R .profile-is))
-                ∙ ap (λ (i : ℕ). profile-from 0 (next i) profile′) (sym u);
+                W .told ∙ ap (λ (w : Walk). profile-from 0 (w .visited) profile) p
+                ∙ profile-then (piece .visited) (more .visited) (W .counts)
+                ∙ ap (profile-from 0 (more .visited)) (sym (R .profile-is))
+                ∙ ap (λ (i : ℕ). profile-from 0 (next i .visited) profile′) (sym u);
           }

@@ -1,8 +1,9 @@
--- Where the walk to a solution arrives, with the visits of all the walks on the way, and what an answer tells of a walk's end.
+-- Where the walk to a solution arrives, with the visits and updates of all the walks on the way, and what an answer
+-- tells of a walk's end.
 use mathlib.Core.Path.{_≡_, refl, ap, _∙_}
 use mathlib.Core.Logic.{⊎-elim}
 use mathlib.Core.List.{List, [], _∷_, _++_}
-use Prim.Native.Nat.{ℕ, zero, suc, _-_}
+use Prim.Native.Nat.{ℕ, zero, suc, _+_, _-_}
 use native.Mathlib.Omega.{arith}
 use denote.Enum.Declared as Declared
 use lib.IntN.{ℤ}
@@ -17,29 +18,32 @@ use Rattle.rules.specs.declared.State.{State}
 use Rattle.rules.specs.Problem.{Problem}
 use Rattle.rules.specs.Order.{Rule}
 use Rattle.rules.specs.Walk.{Level, Walk, End, solution, exhausted, paused, resume}
-use Rattle.rules.specs.Calls.{capped, profile-from, phase-after, moved, next-answer}
+use Rattle.rules.specs.Calls.{capped, profile-from, phase-after, blank, moved, next-answer}
+use Rattle.rules.specs.Door.{past}
 use Rattle.problem.specs.CutLaws.{cannot}
 use Rattle.search.specs.Points.{On}
 
--- where a walk ended at a solution, the visits that follow; else none
-abbrev pub later : End → List ℕ → List ℕ
-later solution visited = visited
-later exhausted visited = []
-later paused visited = []
+-- two walks as one: the second begins where the first ended
+abbrev pub joined : Walk → Walk → Walk
+joined v w = record { end = w .end; at = w .at; visited = v .visited ++ w .visited; updates = v .updates + w .updates }
 
--- the levels visited by `walk-to`, those on the way to earlier solutions first
-unfoldable pub visits-to : Problem → Rule → ℕ → ℕ → Phase → List Level → List ℕ
-visits-to P rule zero a ph s = resume P rule a ph s .visited
-visits-to P rule (suc k) a ph s =
+-- the walks of `walk-to` as one, those on the way to earlier solutions first
+unfoldable pub whole-to : Problem → Rule → ℕ → ℕ → Phase → List Level → Walk
+whole-to P rule zero a ph s = resume P rule a ph s
+whole-to P rule (suc k) a ph s =
     let w : Walk = resume P rule a ph s in
-    w .visited ++ later (w .end) (visits-to P rule k (a - length (w .visited)) Solution (w .at))
+    past (w .end) w (λ t. joined w (whole-to P rule k (a - length (w .visited)) Solution t))
 
--- table, path and profile are those where the walk w ended after all these visits, and the answer tells its end
-pub record Arrived (P : Problem) (n : ℕ) (w : Walk) (visited profile : List ℕ) (t path : List ℤ) (profile′ : List ℕ) (r : NextAnswer) : Type 0 where
-  pub from : State
-  pub answer : r ≡ next-answer (w .end) (moved from w) (length (w .visited))
+-- From a blank state: table and path are those where the last walk, w, ended; the answer tells its end and visits, and
+-- the updates of the whole; the profile has the visits of the whole.
+pub record Arrived (P : Problem) (n : ℕ) (w whole : Walk) (profile : List ℕ) (t path : List ℤ) (profile′ : List ℕ)
+    (r : NextAnswer) : Type 0 where
+  pub answer :
+      r ≡ next-answer (w .end)
+      (record { phase = phase-after (w .end); depth = length (w .at); updates = capped 0 (whole .updates) })
+      (length (w .visited))
   pub on : On P n (w .at) t path (length (w .at))
-  pub profile-is : profile′ ≡ profile-from 0 visited profile
+  pub profile-is : profile′ ≡ profile-from 0 (whole .visited) profile
 
 -- a walk that answers a solution ended at one
 pub solved : (w : Walk) (st : State) {r : NextAnswer} {at : State} {v : ℕ} → r ≡ next-answer (w .end) (moved st w) (length (w .visited)) → r ≡ NextSays.Solution at v
@@ -51,6 +55,15 @@ solved w st {r} {at} {v} p q = by (w .end) p
     by solution p = (refl, cc, cc)
     by exhausted p = cannot (cc)
     by paused p = cannot (cc)
+
+-- an arrival likewise
+pub arrived-at : {P : Problem} {n : ℕ} {w whole : Walk} {profile : List ℕ} {t path : List ℤ} {profile′ : List ℕ}
+    {r : NextAnswer} → Arrived P n w whole profile t path profile′ r → {at : State} {v : ℕ} → r ≡ NextSays.Solution at v
+    → (w .end ≡ solution) × (at .depth ≡ length (w .at))
+arrived-at {w = w} {whole = whole} A {at} q =
+    let last : Walk = record { end = w .end; at = w .at; visited = w .visited; updates = whole .updates } in
+    let s = solved last blank (A .answer) q in
+    (s .0, ap (λ (x : State). x .depth) (s .1))
 
 -- an answer of another kind is no solution
 pub other : OneOf (1 ∷ 2 ∷ 3 ∷ []) 0 → ⊥

@@ -58,10 +58,10 @@ pub record Trying (P : Problem) (n : ℕ) (s : List Level) (v : Level) (t : List
 abbrev pub SomeTrying : ℕ → List ℤ → ℕ → ℕ → Type 0
 SomeTrying n t i x = (P : Problem) × (s : List Level) × (v : Level) × Trying P n s v t i x
 
--- its choice is made, with r updates or what counts for as many
+-- its choice is made, with r updates: the true sum or the cap
 pub record Tried (P : Problem) (n : ℕ) (s : List Level) (v : Level) (t : List ℤ) (r : ℕ) : Type 0 where
   pub at : At P n (v ∷ s) t
-  pub counts : (u : ℕ) → capped u r ≡ capped u (cost (choose P (held (made s)) (v .tried)))
+  pub counts : r ≡ capped 0 (cost (choose P (held (made s)) (v .tried)))
 
 -- l is the deepest level
 abbrev pub SomeLevel : ℕ → List ℤ → List ℤ → ℕ → Type 0

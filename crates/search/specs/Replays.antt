@@ -1,21 +1,21 @@
 -- A path's choices made on a table, and taken back.
 use mathlib.Core.Path.{_≡_}
-use mathlib.Core.Bool.{Bool, true, false, not}
+use mathlib.Core.Bool.{Bool, true, false, not, _&&_, cond}
 use mathlib.Core.Option.{Option, none, some}
 use mathlib.Core.List.{List, [], _∷_}
-use Prim.Native.Nat.{ℕ, _<_, _≤_}
+use Prim.Native.Nat.{ℕ, _<_}
 use lib.Dec.{eqb}
 use lib.IntN.{ℤ, pos, negsuc}
-use lib.ListN.{length, take}
+use lib.ListN.{length, take, drop}
 use Rattle.rules.specs.declared.Phase.{Phase}
 use Rattle.rules.specs.declared.Phase.the-variants as Phases
 use Rattle.rules.specs.declared.State.{State}
-use Rattle.rules.specs.Lists.{when}
-use Rattle.rules.specs.Words.{word}
+use Rattle.rules.specs.Lists.{each, got}
+use Rattle.rules.specs.Words.{word, same}
 use Rattle.rules.specs.Problem.{Problem}
 use Rattle.rules.specs.Order.{node, pick}
 use Rattle.rules.specs.Walk.{Level, chosen}
-use Rattle.rules.specs.Calls.{taken, levels, path-point}
+use Rattle.rules.specs.Calls.{depth-fits, taken, path-point}
 use Rattle.search.specs.Points.{At}
 use Rattle.search.specs.declared.point.Reach.{Reach}
 
@@ -68,19 +68,27 @@ Followed P n s path l t false = Halted P n s path l t
 abbrev pub SomeFresh : ℕ → List ℤ → Type 0
 SomeFresh n t = (P : Problem) × At P n [] t
 
--- l of the path's first `depth` words are choices, which are made in t
-pub record Replayed (P : Problem) (n depth : ℕ) (t path : List ℤ) (l : ℕ) : Type 0 where
-  pub s : List Level
-  pub on : Trailed P n s t path l
-  pub whole : l ≡ depth → levels P (pick P) (take depth path) [] ≡ some s
-  pub broken : l < depth → levels P (pick P) (take depth path) [] ≡ none
-  pub within : l ≤ depth
+-- where there is a level more, what follows it; else the levels so far
+abbrev pub go-on : Option Level → List Level → (List Level → List Level) → List Level
+go-on none s k = s
+go-on (some v) s k = k (v ∷ s)
 
--- the point of state and path, if they are one, is that of the levels made in t
+-- the levels that the words make below the point s, as far as they are choices
+unfoldable pub follows : Problem → List ℤ → List Level → List Level
+follows P [] s = s
+follows P (z ∷ zs) s = go-on (meant-by P s z) s (λ t. follows P zs t)
+
+-- the levels that the path makes: none where the depth does not fit the phase or a word past it is not 0
+unfoldable pub reach : Problem → State → List ℤ → List Level
+reach P st path =
+    cond (depth-fits (st .phase) (P .np) (st .depth) && each (λ w. same w (pos 0)) (drop (st .depth) path))
+    (follows P (take (st .depth) path) [])
+    []
+
+-- whether path and state are a point, and the levels made in t
 pub record PathPoint (P : Problem) (n : ℕ) (st : State) (t path : List ℤ) (r : Reach) : Type 0 where
-  pub s : List Level
-  pub on : Trailed P n s t path (r .level)
-  pub is : path-point P (pick P) st path ≡ when (r .fits) (some s)
+  pub fits : r .fits ≡ got (path-point P (pick P) st path)
+  pub on : Trailed P n (reach P st path) t path (r .level)
 
 -- the test of a phase, by the header of the item taken
 abbrev pub phase-by : Phase → ℕ → Bool

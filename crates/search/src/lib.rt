@@ -17,7 +17,7 @@ ghost use Rattle.rules.specs.Walk as Walk;
 ghost use Rattle.rules.specs.Calls.{cap, capped, started};
 ghost use Rattle.rules.specs.Door.{walk-to};
 ghost use Rattle.search.specs.Points.{On, SomeOn, Gone, Taking, SomeTaking, Profile, Ran, Begun, SomeBegun};
-ghost use Rattle.search.specs.Arrived.{visits-to, Arrived};
+ghost use Rattle.search.specs.Arrived.{whole-to, Arrived};
 use crate::choose::choose;
 use crate::x::Again;
 use crate::x::try_again;
@@ -166,7 +166,9 @@ pub fn walk_to(
 ) -> NextAnswer
     requires { ⌜ Profile (length (now path)) (now profile) ⌝ }
     requires { ⌜ ((P : Problem) × On P n [] (now t) (now path) 0) ⌝ }
-    ensures { λ r. ⌜ ((P : Problem) → On P n [] (now (t .entry)) (now (path .entry)) 0 → Arrived P n (walk-to P (pick P) number allowance Ready []) (visits-to P (pick P) number allowance Ready []) (now (profile .entry)) (now (t .exit)) (now (path .exit)) (now (profile .exit)) r) ⌝ }
+    ensures { λ r. ⌜ ((P : Problem) → On P n [] (now (t .entry)) (now (path .entry)) 0 →
+        Arrived P n (walk-to P (pick P) number allowance Ready []) (whole-to P (pick P) number allowance Ready [])
+        (now (profile .entry)) (now (t .exit)) (now (path .exit)) (now (profile .exit)) r) ⌝ }
 {
     let mut state = state_at(Phase::Ready, 0, 0);
     let mut left = allowance;

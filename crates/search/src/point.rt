@@ -4,7 +4,7 @@ ghost use mathlib.Core.Bool.{_&&_};
 ghost use mathlib.Core.List.{List, []};
 ghost use Prim.Native.Nat.{ℕ, _≤_};
 ghost use lib.IntN.{pos};
-ghost use lib.ListN.{length, drop};
+ghost use lib.ListN.{length, take, drop};
 ghost use Rattle.rules.specs.Lists.{each, got};
 ghost use Rattle.rules.specs.Words.{same, same-words};
 ghost use Rattle.rules.specs.Problem.{Problem};
@@ -12,7 +12,8 @@ ghost use Rattle.rules.specs.Order.{pick, choices, open-options};
 ghost use Rattle.rules.specs.Walk.{Level, chosen};
 ghost use Rattle.rules.specs.Calls.{level-of, depth-fits, point};
 ghost use Rattle.search.specs.Points.{At, Picked, SomePicked};
-ghost use Rattle.search.specs.Replays.{phase-by, Trailed, SomeTrailed, Following, SomeFollowing, Followed, SomeFresh, Replayed, PathPoint, Testing, SomeTesting};
+ghost use Rattle.search.specs.Replays.{phase-by, Trailed, SomeTrailed, Following, SomeFollowing, Followed};
+ghost use Rattle.search.specs.Replays.{SomeFresh, follows, PathPoint, Testing, SomeTesting};
 use crate::choose::choose;
 use crate::x::restore_item;
 use crate::x::try_item;
@@ -66,7 +67,8 @@ fn follow(spare: &mut [i32], path: &[i32], n: usize, l: usize) -> bool
 fn replay(spare: &mut [i32], path: &[i32], n: usize, depth: usize) -> usize
     requires { ⌜ SomeFresh n (now spare) ⌝ }
     requires { ⌜ depth ≤ length (now path) ⌝ }
-    ensures { λ r. ⌜ ((P : Problem) → At P n [] (now (spare .entry)) → Replayed P n depth (now (spare .exit)) (now (path .entry)) r) ⌝ }
+    ensures { λ r. ⌜ ((P : Problem) → At P n [] (now (spare .entry)) →
+        Trailed P n (follows P (take depth (now (path .entry))) []) (now (spare .exit)) (now (path .entry)) r) ⌝ }
 {
     let mut l = 0;
     while l < depth {
@@ -143,8 +145,9 @@ fn phase_fits(phase: Phase, i: usize) -> bool
 // The first half of the test, with no table: whether phase, depth and path are a point. The spare is fresh, and is left with the choices of
 // the result's levels made.
 pub fn path_point(spare: &mut [i32], path: &[i32], n: usize, st: State) -> Reach
-    requires { ⌜ SomeFresh n (now spare) ⌝ }
-    ensures { λ r. ⌜ ((P : Problem) → At P n [] (now (spare .entry)) → length (now (path .entry)) ≡ P .np → PathPoint P n st (now (spare .exit)) (now (path .entry)) r) ⌝ }
+    requires { ⌜ ((P : Problem) × At P n [] (now spare) × (length (now path) ≡ P .np)) ⌝ }
+    ensures { λ r. ⌜ ((P : Problem) → At P n [] (now (spare .entry)) → length (now (path .entry)) ≡ P .np →
+        PathPoint P n st (now (spare .exit)) (now (path .entry)) r) ⌝ }
 {
     let phase = st.phase;
     let d = st.depth as usize;

@@ -26,7 +26,7 @@ use Rattle.problem.specs.Measured.{measured, refused-refusal, refused-some, tab
 use Rattle.problem.specs.Room.{Accepted, accepted}
 use Rattle.search.specs.Points.{On, Profile}
 use Rattle.search.specs.Meant.{np-meant, top-words, top-on, top-profile}
-use Rattle.search.specs.Arrived.{visits-to, Arrived}
+use Rattle.search.specs.Arrived.{whole-to, Arrived}
 use Rattle.calls.proofs.Outcomes.{over-part}
 use Rattle.timed.specs.Timed.{largest, Timed, set-up-timed, walked, walk-as, walk-timed}
 use Rattle.timed.specs.Fronts.{Top}
@@ -116,15 +116,26 @@ module _ {ws : List ℤ} {s : Sizes} {l : SetUpLent} (T : Top ws s l) where
   fronts-profile = top-profile (s .np) (T .path-is) (T .profile-is)
 
   pub fronts-walked : (number : ℕ) {t path : List ℤ} {profile : List ℕ} {r : NextAnswer}
-      → Arrived P (s .np + s .ns) (walk-to P (pick P) number largest Ready []) (visits-to P (pick P) number largest Ready []) (take (s .np) (l .profile)) t path profile r
+      → Arrived P (s .np + s .ns) (walk-to P (pick P) number largest Ready [])
+      (whole-to P (pick P) number largest Ready []) (take (s .np) (l .profile)) t path profile r
       → length t ≡ table-length s → length path ≡ s .np → length profile ≡ s .np
-      → record { result = next-said r .number; lent = record { table = t ++ drop (table-length s) (l .table); path = path ++ drop (s .np) (l .path); profile = profile ++ drop (s .np) (l .profile) } } ≡ walked P number l
+      → record {
+        result = next-said r .number;
+        lent = record {
+          table = t ++ drop (table-length s) (l .table);
+          path = path ++ drop (s .np) (l .path);
+          profile = profile ++ drop (s .np) (l .profile);
+        };
+      } ≡ walked P number l
   fronts-walked number {t} {path} {profile} {r} A a b c =
       let w : Walk = walk-to P (pick P) number largest Ready [] in
-      let k : next-said r .number ≡ end-number (w .end) = ap (λ (x : NextAnswer). next-said x .number) (A .answer) ∙ end-said (w .end) _ _ in
+      let visited : List ℕ = whole-to P (pick P) number largest Ready [] .visited in
+      let k : next-said r .number ≡ end-number (w .end) =
+      ap (λ (x : NextAnswer). next-said x .number) (A .answer) ∙ end-said (w .end) _ _ in
       let x = over-part (table-at P (made (w .at))) (l .table) t (table-length s) (A .on .at .is) a in
       let y = over-part (path-words (P .np) (w .at)) (l .path) path (s .np) (A .on .path-is) b in
-      let v : profile ≡ profile-from 0 (visits-to P (pick P) number largest Ready []) (take (P .np) (l .profile)) =
-      A .profile-is ∙ ap (λ (k : ℕ). profile-from 0 (visits-to P (pick P) number largest Ready []) (take k (l .profile))) (sym (np-meant ws s (T .measures))) in
-      let z = over-part (profile-from 0 (visits-to P (pick P) number largest Ready []) (take (P .np) (l .profile))) (l .profile) profile (s .np) v c in
+      let v : profile ≡ profile-from 0 visited (take (P .np) (l .profile)) =
+      A .profile-is
+      ∙ ap (λ (k : ℕ). profile-from 0 visited (take k (l .profile))) (sym (np-meant ws s (T .measures))) in
+      let z = over-part (profile-from 0 visited (take (P .np) (l .profile))) (l .profile) profile (s .np) v c in
       λ i. record { result = k i; lent = record { table = x i; path = y i; profile = z i } }

@@ -14,7 +14,7 @@ use Rattle.rules.specs.Links.{table as table-at}
 use Rattle.rules.specs.Walk.{Walk, made}
 use Rattle.rules.specs.Calls.{profile-from, path-words, end-number, SetUpLent, SetUpOutcome, set-up-said, set-up-call, NextLent, NextOutcome, next-call}
 use Rattle.rules.specs.Door.{walk-to}
-use Rattle.search.specs.Arrived.{visits-to}
+use Rattle.search.specs.Arrived.{whole-to}
 
 -- an allowance of 2^64-1
 abbrev pub largest : ℕ
@@ -36,12 +36,13 @@ set-up-timed ws l =
 abbrev pub walked : Problem → ℕ → SetUpLent → Timed
 walked P number l =
     let w : Walk = walk-to P (pick P) number largest Ready [] in
+    let visited : List ℕ = whole-to P (pick P) number largest Ready [] .visited in
     record {
       result = end-number (w .end);
       lent = record {
         table = over (table-at P (made (w .at))) (l .table);
         path = over (path-words (P .np) (w .at)) (l .path);
-        profile = over (profile-from 0 (visits-to P (pick P) number largest Ready []) (take (P .np) (l .profile))) (l .profile);
+        profile = over (profile-from 0 visited (take (P .np) (l .profile))) (l .profile);
       };
     }
 

@@ -16,7 +16,7 @@ use Rattle.rules.specs.Door.{walk-to}
 use Rattle.problem.specs.CutLaws.{cannot}
 use Rattle.problem.specs.Measured.{table-bounds}
 use Rattle.search.specs.Points.{On}
-use Rattle.search.specs.Arrived.{visits-to, Arrived}
+use Rattle.search.specs.Arrived.{whole-to, Arrived}
 use Rattle.search.specs.Meant.{top-on, top-profile}
 use Rattle.door.proofs.Outcomes.{on-depth, shallow, found-natural, ends-solved, ends-other}
 use Rattle.door.proofs.solve_parts.Statement.{statement}
@@ -39,7 +39,9 @@ walked q =
 
 arrived : (q : tie.After-walk-to)
     → let a = q .before .before .before .before .before .before .before .before .before .before .args in
-    Arrived (meant (cut (a .problem .now))) (a .s .np + a .s .ns) (walked q) (visits-to (meant (cut (a .problem .now))) (pick (meant (cut (a .problem .now)))) (a .number) (a .allowance) Ready []) (a .profile .now) (q .walk-to .last .0) (q .walk-to .last .1 .0) (q .walk-to .last .1 .1 .0) (q .walk-to .result)
+    let P = meant (cut (a .problem .now)) in
+    Arrived P (a .s .np + a .s .ns) (walked q) (whole-to P (pick P) (a .number) (a .allowance) Ready [])
+    (a .profile .now) (q .walk-to .last .0) (q .walk-to .last .1 .0) (q .walk-to .last .1 .1 .0) (q .walk-to .result)
 arrived q = q .walk-to .ensures (meant (cut (q .before .before .before .before .before .before .before .before .before .before .args .problem .now))) (top (q .before))
 
 -- at a solution

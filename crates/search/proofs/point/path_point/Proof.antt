@@ -1,6 +1,5 @@
 use mathlib.Core.Bool.{true}
 use mathlib.Core.Path.{_≡_, sym, _∙_}
-use native.Mathlib.Omega.{arith}
 use borrow.Author.Tests.{not-true, not-false}
 use borrow.Author.Needs.{needs}
 use lib.ListN.{length}
@@ -32,7 +31,7 @@ replay-requires c κs =
     let pre = c .before .before .before .before .before .before .pre in
     let a = c .before .before .before .before .before .before .args in
     let d = c .before .before .before in
-    (pre, depth-le (a .st .phase) (length (a .path .now)) (a .st .depth) (depth-is d))
+    ((_, pre .1), depth-le (a .st .phase) (length (a .path .now)) (a .st .depth) (depth-is d))
 
 same-length : tie.Need-same-length
 same-length c = search needs
@@ -40,10 +39,18 @@ same-length c = search needs
 returns-3 : tie.Need-returns-3
 returns-3 c =
     let a = c .before .before .before .before .before .before .before .before .before .args in
-    λ P A h. let R = c .before .before .replay .ensures P A in bad-path P (a .st) (a .path .now) h R (omega (arith, R .within, c .if3 .taken))
+    let d = c .before .before .before .before .before .before in
+    let zeros-from = c .before .before .before .before .before .zeros-from in
+    let if2 = c .before .before .before .before .if2 in
+    λ P A h.
+    bad-path P (a .st) (a .path .now) h (depth-is d)
+    (sym (zeros-from .ensures) ∙ not-false (zeros-from .result) (if2 .left))
+    (c .before .before .replay .ensures P A) (c .if3 .taken)
 
 choose-requires : tie.Need-choose-requires
-choose-requires c κs = (_, _, c .before .before .before .replay .ensures _ (c .before .before .before .before .before .before .before .before .before .before .pre .1) .on .at)
+choose-requires c κs =
+    let pre = c .before .before .before .before .before .before .before .before .before .before .pre in
+    (_, _, c .before .before .before .replay .ensures _ (pre .1) .at)
 
 phase-fits-requires : tie.Need-phase-fits-requires
 phase-fits-requires c κs = search needs
@@ -61,8 +68,9 @@ returns-4 c =
     let if3 = c .before .before .before .if3 in
     λ P A h.
     let R = replay .ensures P A in
-    good-path P (a .st) (a .path .now) h R (depth-is d) (sym (zeros-from .ensures) ∙ not-false (zeros-from .result) (if2 .left)) (if3 .left)
-    (c .before .choose .ensures P _ (R .on .at)) (c .phase-fits .ensures)
+    good-path P (a .st) (a .path .now) h (depth-is d)
+    (sym (zeros-from .ensures) ∙ not-false (zeros-from .result) (if2 .left))
+    R (if3 .left) (c .before .choose .ensures P _ (R .at)) (c .phase-fits .ensures)
 
 pub path-point-spec : {M : Type 1} → statement M
 path-point-spec =

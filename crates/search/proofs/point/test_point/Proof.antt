@@ -6,7 +6,7 @@ use Rattle.search.proofs.point.test_point.Statement.{statement}
 use Rattle.search.proofs.point.test_point.Tie as tie
 
 path-point-requires : tie.Need-path-point-requires
-path-point-requires c κs = (_, c .before .pre .1 .fresh)
+path-point-requires c κs = let K = c .before .pre .1 in (_, K .fresh, K .long)
 
 same-words-requires : tie.Need-same-words-requires
 same-words-requires c κs = c .before .before .before .before .pre .1 .even ∙ sym (c .before .before .path-point .kept .0)
