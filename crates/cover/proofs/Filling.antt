@@ -21,10 +21,9 @@ use Rattle.rules.specs.Order.{pick}
 use Rattle.rules.specs.Walk.{Level, Walk, End, solution, exhausted, paused, numbers, resume}
 use Rattle.rules.specs.Calls.{cap, capped, profile-from, phase-after, started, next-answer}
 use Rattle.rules.specs.Cover.{line}
-use Rattle.laws.specs.Lists.{flat-append}
+use Rattle.laws.specs.Lists.{flat-append, cannot}
 use Rattle.laws.specs.Order.{pick-sound}
 use Rattle.laws.specs.Reached.{in-order-length}
-use Rattle.problem.specs.CutLaws.{cannot}
 use Rattle.knuth.specs.Trace.{Trace, to-come, remains, found-by}
 use Rattle.knuth.specs.Walks.{resume-tells}
 use Rattle.words.specs.Read.{Natural}

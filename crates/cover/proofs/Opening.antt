@@ -20,7 +20,7 @@ use Rattle.rules.specs.Lists.{over}
 use Rattle.rules.specs.Problem.{door-limits, cut, sizes, table-length, fault, need, first-of, judged, verdict, cut-refusal, problem-refusal}
 use Rattle.rules.specs.Text.{lines, stated, first-bad, words-of, ReadOutcome, unread, read-into, read-lines, read-sized, read-call}
 use Rattle.rules.specs.Cover.{Opened, refused, open-as, open-lines, opened}
-use Rattle.problem.specs.CutLaws.{cannot}
+use Rattle.laws.specs.Lists.{cannot}
 use Rattle.problem.specs.Measured.{Within, within, table-bounds, judged-sized, judged-refused}
 use Rattle.problem.specs.Room as Room
 use Rattle.problem.specs.Room.{room, served, served-all}

@@ -16,8 +16,8 @@ use Rattle.rules.specs.declared.Verdict.{Verdict}
 use Rattle.rules.specs.Lists.{got}
 use Rattle.rules.specs.Words.{word, nat}
 use Rattle.rules.specs.Problem.{Pair, door-limits, need, entry-count, with-option, cut-options, judged, parts, cut, sizes, count-pairs, cut-refusal, verdict}
-use Rattle.laws.specs.Lists.{and-right}
-use Rattle.problem.specs.CutLaws.{Whole, options-at, entries-at, no-count-past, no-count-negative, count-with-room, no-count-short, cut-step, cut-lost, cut-over, cut-end, length-entries, natural, turn, cannot}
+use Rattle.laws.specs.Lists.{and-right, cannot}
+use Rattle.problem.specs.CutLaws.{Whole, options-at, entries-at, no-count-past, no-count-negative, count-with-room, no-count-short, cut-step, cut-lost, cut-over, cut-end, length-entries, natural, turn}
 use Rattle.problem.specs.Heads.{options-refusal}
 
 -- ---- a walk over the options' counts

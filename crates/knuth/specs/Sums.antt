@@ -16,10 +16,11 @@ use Rattle.laws.specs.Order.{pick-sound}
 use Rattle.knuth.specs.Lists.{over-over}
 use Rattle.knuth.specs.Counts.{capped-twice}
 use Rattle.knuth.specs.Twice.{table-twice, path-twice, counted-twice}
-use Rattle.knuth.specs.Trace.{joined, go-on-from}
+use Rattle.knuth.specs.Trace.{go-on-from}
 use Rattle.knuth.specs.Adds.{resume-adds}
 use Rattle.knuth.specs.Ends.{reached-deep, Ends, resume-ends}
 use Rattle.rules.specs.Calls.{next-refusal}
+use Rattle.laws.specs.Reached.{joined}
 use Rattle.knuth.specs.Series.{problem, with-visits, then-call-from, then-call}
 use Rattle.knuth.specs.Stands.{Stands, accepted→, next-walked, next-stands, walk-of, walk-ended}
 

@@ -19,7 +19,7 @@ use Rattle.rules.specs.Order.{pick}
 use Rattle.rules.specs.Links.{events, table}
 use Rattle.rules.specs.Walk.{Level, made, numbers, End, solution, exhausted, paused, Walk}
 use Rattle.rules.specs.Calls.{counts-fit, phase-after, moved, started, started-in, NextLent, next-answer, report-call, walked}
-use Rattle.laws.specs.Lists.{and-left, and-right}
+use Rattle.laws.specs.Lists.{and-left, and-right, cannot}
 use Rattle.laws.specs.Order.{pick-sound}
 use Rattle.laws.specs.Reached.{in-order-length}
 use Rattle.knuth.specs.Lists.{is-true, over-length, take-over, over-same}
@@ -123,7 +123,7 @@ module _ {L : Limits} {ws : List ℤ} where
           path = rw top (sym (path-twice (cut ws .np) [] [] (l .path) (omega arith) (omega arith)));
         } in
         rw (add-zero (length (w .visited))) at
-        (first-tells b r (none-tells (next-stands S a) (remains P (pick P) (w .end) (w .at)) true (λ x. absurd (let z : _≡_ {A = ℕ} 0 1 = cc in omega arith)) (λ x. (rw e refl, at-top))) [] (rw e refl))
+        (first-tells b r (none-tells (next-stands S a) (remains P (pick P) (w .end) (w .at)) true (λ x. cannot (cc)) (λ x. (rw e refl, at-top))) [] (rw e refl))
 
     -- a call, whatever it answers, and the calls after it
     call-tells : started st ≡ st → (later : State → Seen)
@@ -154,7 +154,7 @@ module _ (L : Limits) (ws : List ℤ) where
   unfolding series
   no-call-tells l st s S b =
       none-tells S (to-come (problem ws) (pick (problem ws)) (st .phase) s) false
-      (λ e. ap (to-come (problem ws) (pick (problem ws)) (st .phase)) (sym (stands-there S))) (λ e. absurd (let z : _≡_ {A = ℕ} 0 1 = cc in omega arith))
+      (λ e. ap (to-come (problem ws) (pick (problem ws)) (st .phase)) (sym (stands-there S))) (λ e. cannot (cc))
 
   more-tells : (a : ℕ) (more : List ℕ) → ((l : NextLent) (st : State) (s : List Level) → Telling more l st s) → (l : NextLent) (st : State) (s : List Level) → Telling (a ∷ more) l st s
   unfolding series

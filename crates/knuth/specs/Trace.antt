@@ -9,6 +9,7 @@ use Rattle.rules.specs.Problem.{Problem}
 use Rattle.rules.specs.Order.{Choice, Rule, choices, open-options}
 use Rattle.rules.specs.Links.{cost, own, touch, try, held}
 use Rattle.rules.specs.Walk.{Level, made, chosen, numbers, End, solution, exhausted, paused, Walk}
+use Rattle.laws.specs.Reached.{joined}
 
 infixr 60 _then_
 -- the levels visited and the solutions found, each in order, and the updates
@@ -99,9 +100,6 @@ abbrev pub made-by : Walk → Trace
 made-by w = record { visits = w .visited; found = found-by (w .end) (w .at); updates = w .updates }
 
 -- ---- one walk after another
-
-abbrev pub joined : Walk → Walk → Walk
-joined w v = record { end = v .end; at = v .at; visited = w .visited ++ v .visited; updates = w .updates + v .updates }
 
 abbrev pub go-on-from : End → Walk → (List Level → Walk) → Walk
 go-on-from solution w k = w

@@ -12,6 +12,10 @@ use Rattle.rules.specs.Lists.{also, keep, each, has, flat, run}
 
 -- ---- tests
 
+-- from two constructors that cannot be equal: `cc` brings them to 0 ≡ 1
+pub cannot : {A : Type 0} → _≡_ {A = ℕ} 0 1 → A
+cannot e = absurd (omega arith)
+
 pub and-left : (a b : Bool) → T (a && b) → T a
 and-left true b t = tt
 and-left false b t = t

@@ -10,7 +10,7 @@ use native.Mathlib.Omega.{arith}
 use lib.Dec.{T, eqb, ltb, eqb→eq, eqb-refl, T-not, not-T}
 use lib.ListN.{length, getD}
 use Rattle.rules.specs.Lists.{also, keep, each, has, run}
-use Rattle.laws.specs.Lists.{Apart, apart-nil, apart-cons, apart-keep, apart-map, and-left, and-right, and-both, or-cases, or-left, or-right, tested, keep-mem, keep-in, each-at, each-all, has-at, has-in, run-mem, run-in, also-mem, also-rest, also-head}
+use Rattle.laws.specs.Lists.{Apart, apart-nil, apart-cons, apart-keep, apart-map, and-left, and-right, and-both, or-cases, or-left, or-right, tested, keep-mem, keep-in, each-at, each-all, has-at, has-in, run-mem, run-in, also-mem, also-rest, also-head, cannot}
 use Rattle.rules.specs.Problem.{Entry, Problem}
 use Rattle.rules.specs.Knuth.{option, Has}
 use Rattle.rules.specs.Order.{has-item, one-colour, agree, Placed, kept, spacer-after, place, open-options, open-items, Choice, place-of, choices, Weighed, lighter, least-from, least, Rule, pick}
@@ -127,7 +127,7 @@ place-one np m p (x ∷ os) {o} {o′} a b e =
 
 pub least-none : (ws : List Weighed) → least ws ≡ none → {w : Weighed} → Mem w ws → ⊥
 least-none [] e m = not-nil m
-least-none (a ∷ ws) e m = let z : _≡_ {A = ℕ} 0 1 = cc in omega arith
+least-none (a ∷ ws) e m = cannot (cc)
 
 least-from-in : (a : Weighed) (ws : List Weighed) → Mem (least-from a ws) (a ∷ ws)
 unfolding least-from
@@ -143,7 +143,7 @@ least-from-in a (b ∷ ws) = step (ltb (b .weight) (a .weight)) refl (λ x. leas
         move (inr m) = there (there m)
 
 pub least-some : (ws : List Weighed) {i : ℕ} → least ws ≡ some i → (w : Weighed) × Mem w ws × (w .item ≡ i)
-least-some [] e = absurd (let z : _≡_ {A = ℕ} 0 1 = cc in omega arith)
+least-some [] e = cannot (cc)
 least-some (a ∷ ws) e = (least-from a ws, least-from-in a ws, cc)
 
 weigh : Problem → List Placed → ℕ → Weighed

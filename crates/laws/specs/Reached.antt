@@ -3,7 +3,7 @@ use mathlib.Core.Path.{_≡_, refl, sym, ap, _∙_}
 use mathlib.Core.Bool.{Bool, true, false, _&&_, cond}
 use mathlib.Core.Option.{Option, none, some}
 use mathlib.Core.List.{List, [], _∷_, _++_, append-assoc}
-use Prim.Native.Nat.{ℕ, zero, suc, _-_, _≤_}
+use Prim.Native.Nat.{ℕ, zero, suc, _+_, _-_, _≤_}
 use native.Mathlib.Omega.{arith}
 use lib.Dec.{T, eqb, eqb→eq}
 use lib.IntN.{ℤ, pos, negsuc}
@@ -18,7 +18,7 @@ use Rattle.rules.specs.Order.{Choice, Rule, node, choices, open-options}
 use Rattle.rules.specs.Links.{table}
 use Rattle.rules.specs.Walk.{Level, made, chosen, in-order, Move, back-to, retreat, go-into, enter, paused, Walk, stop, visiting, follow, at-point, walk, resume}
 use Rattle.rules.specs.Calls.{level-of, deeper, phase-fits, depth-fits, taken, levels, in-phase, path-point, in-table, point, path-words}
-use Rattle.laws.specs.Lists.{and-left, and-right}
+use Rattle.laws.specs.Lists.{and-left, and-right, cannot}
 
 -- At each level the item that the rule takes is tried, and the choices from the one tried on are the last of its open ones.
 pub data Reached (P : Problem) (rule : Rule) : List Level → Type 0 where
@@ -26,10 +26,14 @@ pub data Reached (P : Problem) (rule : Rule) : List Level → Type 0 where
   level : {v : Level} {above : List Level} (i : ℕ) (xs : List Choice) → rule (chosen above) ≡ some i
       → choices i (open-options P (chosen above)) ≡ xs ++ v .tried ∷ v .left → Reached P rule above → Reached P rule (v ∷ above)
 
+-- two walks as one: the second begins where the first ended
+abbrev pub joined : Walk → Walk → Walk
+joined w v = record { end = v .end; at = v .at; visited = w .visited ++ v .visited; updates = w .updates + v .updates }
+
 -- a test that holds
 pub when-some : {A : Type 0} (b : Bool) {r : Option A} {a : A} → when b r ≡ some a → T b × (r ≡ some a)
 when-some true e = (tt, e)
-when-some false e = absurd (let z : _≡_ {A = ℕ} 0 1 = cc in omega arith)
+when-some false e = cannot (cc)
 
 pub same-eq : (x y : ℤ) → T (same x y) → x ≡ y
 same-eq (pos a) (pos b) t = ap pos (eqb→eq a b t)
@@ -62,7 +66,7 @@ path-length np s h =
 -- the level found tries one of the choices
 pub level-at : (q : ℕ) (cs : List Choice) {v : Level} → level-of q cs ≡ some v → (xs : List Choice) × (cs ≡ xs ++ v .tried ∷ v .left)
 unfolding level-of
-level-at q [] e = absurd (let z : _≡_ {A = ℕ} 0 1 = cc in omega arith)
+level-at q [] e = cannot (cc)
 level-at q (c ∷ cs) {v} e = go (eqb (node c) q) e (λ u. level-at q cs u)
   where
     go : (b : Bool) → cond b (some (record { tried = c; left = cs })) (level-of q cs) ≡ some v
@@ -75,7 +79,7 @@ module _ (P : Problem) (rule : Rule) where
 
   pub retreat-reached : {s : List Level} {m : Move} → Reached P rule s → retreat P s ≡ some m → Reached P rule (m .to)
   unfolding retreat
-  retreat-reached {m = m} root e = absurd (let z : _≡_ {A = ℕ} 0 1 = cc in omega arith)
+  retreat-reached {m = m} root e = cannot (cc)
   retreat-reached {m = m} (level {v = v} {above = above} i xs p c r) e = go (v .left) c e (λ u. retreat-reached r u)
     where
       go : (l : List Choice) → choices i (open-options P (chosen above)) ≡ xs ++ v .tried ∷ l → back-to P l above (retreat P above) ≡ some m
@@ -124,17 +128,17 @@ module _ (P : Problem) (rule : Rule) where
   pub levels-reached : (qs : List ℤ) {s s′ : List Level} → Reached P rule s → levels P rule qs s ≡ some s′ → Reached P rule s′
   unfolding levels
   levels-reached [] {s} {s′} r e = let u : s ≡ s′ = cc in rw (← u) r
-  levels-reached (negsuc k ∷ qs) r e = absurd (let z : _≡_ {A = ℕ} 0 1 = cc in omega arith)
+  levels-reached (negsuc k ∷ qs) r e = cannot (cc)
   levels-reached (pos q ∷ qs) {s} {s′} r e = go (rule (chosen s)) refl e (λ t u w. levels-reached qs u w)
     where
       last : (i : ℕ) → rule (chosen s) ≡ some i → (o : Option Level) → level-of q (choices i (open-options P (chosen s))) ≡ o → deeper o s (λ t. levels P rule qs t) ≡ some s′
           → ((t : List Level) → Reached P rule t → levels P rule qs t ≡ some s′ → Reached P rule s′) → Reached P rule s′
-      last i p none f e rec = absurd (let z : _≡_ {A = ℕ} 0 1 = cc in omega arith)
+      last i p none f e rec = cannot (cc)
       last i p (some v) f e rec = let x = level-at q (choices i (open-options P (chosen s))) f in rec (v ∷ s) (level i (x .0) p (x .1) r) e
 
       go : (o : Option ℕ) → rule (chosen s) ≡ o → deeper (taken P rule o s q) s (λ t. levels P rule qs t) ≡ some s′
           → ((t : List Level) → Reached P rule t → levels P rule qs t ≡ some s′ → Reached P rule s′) → Reached P rule s′
-      go none p e rec = absurd (let z : _≡_ {A = ℕ} 0 1 = cc in omega arith)
+      go none p e rec = cannot (cc)
       go (some i) p e rec = last i p (level-of q (choices i (open-options P (chosen s)))) refl e rec
 
   pub in-phase-some : (ph : Phase) (o : Option (List Level)) {s : List Level} → in-phase P rule ph o ≡ some s → o ≡ some s
@@ -142,7 +146,7 @@ module _ (P : Problem) (rule : Rule) where
   in-phase-some ph (some s) e = when-some (phase-fits ph (rule (chosen s))) e .1
 
   pub in-table-some : (t : List ℤ) (o : Option (List Level)) {s : List Level} → in-table P rule t o ≡ some s → (o ≡ some s) × (t ≡ table P (made s))
-  in-table-some t none e = absurd (let z : _≡_ {A = ℕ} 0 1 = cc in omega arith)
+  in-table-some t none e = cannot (cc)
   in-table-some t (some s′) {s} e =
       let w = when-some (same-words t (table P (made s′))) e in
       let u : s′ ≡ s = cc in

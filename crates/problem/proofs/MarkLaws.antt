@@ -13,7 +13,8 @@ use lib.Seq.{getD-set-same, getD-set-other}
 use Rattle.rules.specs.Lists.{has}
 use Rattle.rules.specs.Problem.{need, first-of, entry-fault}
 use Rattle.rules.specs.Words.{word, below, same}
-use Rattle.problem.specs.CutLaws.{cannot, pair-at}
+use Rattle.laws.specs.Lists.{cannot}
+use Rattle.problem.specs.CutLaws.{pair-at}
 use Rattle.problem.specs.Marks.{Marked, Older, colour-fault}
 
 has-none : (z : ℤ) → has (same z) [] ≡ false

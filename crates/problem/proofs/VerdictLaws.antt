@@ -12,8 +12,9 @@ use Rattle.rules.specs.Problem.{Pair, first-of, cut-refusal, verdict, parts, cu
 use Rattle.rules.specs.Words.{word, nat}
 use Rattle.rules.specs.declared.Limits.{Limits}
 use Rattle.rules.specs.declared.Verdict.the-variants.{Refused, Sized}
+use Rattle.laws.specs.Lists.{cannot}
 use Rattle.problem.proofs.SumLaws.{sums-of, sums-are}
-use Rattle.problem.specs.CutLaws.{cannot, length-options}
+use Rattle.problem.specs.CutLaws.{length-options}
 use Rattle.problem.specs.Heads.{options-refusal, Heads}
 use Rattle.problem.specs.Sums.{no-sums, add-options, total}
 use Rattle.problem.specs.declared.Counted.the-variants.{Right, Wrong}

@@ -14,6 +14,7 @@ use lib.Signed.{nonNeg}
 use Rattle.rules.specs.Lists.{when, got, or-none}
 use Rattle.rules.specs.Problem.{Pair, entry-count, pairs, with-option, then-cut, cut-options, count-pairs}
 use Rattle.rules.specs.Words.{word}
+use Rattle.laws.specs.Lists.{cannot}
 
 -- the entry at p
 abbrev pub pair-at : List ℤ → ℕ → Pair
@@ -30,10 +31,6 @@ Whole ws at m = T (got (cut-options m (drop at ws)))
 -- those options
 abbrev pub options-at : List ℤ → ℕ → ℕ → List (List Pair)
 options-at ws at m = or-none (cut-options m (drop at ws))
-
--- from two constructors that cannot be equal: `cc` brings them to 0 ≡ 1
-pub cannot : {A : Type 0} → _≡_ {A = ℕ} 0 1 → A
-cannot e = absurd (omega arith)
 
 -- ---- the entry count at a position
 

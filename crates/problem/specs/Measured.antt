@@ -15,7 +15,8 @@ use Rattle.rules.specs.Words.{word, nat}
 use Rattle.rules.specs.declared.Limits.{Limits}
 use Rattle.rules.specs.declared.Sizes.{Sizes}
 use Rattle.rules.specs.declared.Verdict.the-variants.{Refused, Sized}
-use Rattle.problem.specs.CutLaws.{cannot, Whole, options-at, length-options, few-pairs}
+use Rattle.laws.specs.Lists.{cannot}
+use Rattle.problem.specs.CutLaws.{Whole, options-at, length-options, few-pairs}
 use Rattle.laws.specs.Faults.{need-holds}
 
 -- the words are cut right, and s are their sizes

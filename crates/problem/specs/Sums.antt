@@ -6,7 +6,7 @@ use mathlib.Core.Path.{_≡_, refl}
 use Prim.Native.Nat.{ℕ, _+_}
 use lib.ListN.{length}
 use Rattle.rules.specs.Problem.{Pair, pairs-kept}
-use Rattle.problem.specs.CutLaws.{cannot}
+use Rattle.laws.specs.Lists.{cannot}
 use Rattle.problem.specs.declared.Count.{Count}
 use Rattle.problem.specs.declared.Count.the-variants.{Of, Missing}
 use Rattle.problem.specs.declared.Entries.{Entries}

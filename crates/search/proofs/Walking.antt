@@ -19,9 +19,10 @@ use Rattle.rules.specs.Order.{Rule, pick}
 use Rattle.rules.specs.Walk.{Level, Move, Walk, End, solution, exhausted, paused, chosen, retreat, enter, stop, visiting, follow, at-point, walk, resume}
 use Rattle.rules.specs.Calls.{cap, capped, profile-from, blank, started}
 use Rattle.rules.specs.Door.{past, walk-to}
-use Rattle.problem.specs.CutLaws.{cannot}
+use Rattle.laws.specs.Reached.{joined}
+use Rattle.laws.specs.Lists.{cannot}
 use Rattle.search.specs.Points.{On, Profile, Ran, Begun}
-use Rattle.search.specs.Arrived.{joined, whole-to, Arrived, solved, unsolved, on-level}
+use Rattle.search.specs.Arrived.{whole-to, Arrived, solved, unsolved, on-level}
 use Rattle.search.proofs.Running.{profile-fits, profile-then}
 
 -- ---- the allowance

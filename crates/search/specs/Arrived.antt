@@ -2,7 +2,7 @@
 -- tells of a walk's end.
 use mathlib.Core.Path.{_≡_, refl, ap, _∙_}
 use mathlib.Core.Logic.{⊎-elim}
-use mathlib.Core.List.{List, [], _∷_, _++_}
+use mathlib.Core.List.{List, [], _∷_}
 use Prim.Native.Nat.{ℕ, zero, suc, _+_, _-_}
 use native.Mathlib.Omega.{arith}
 use denote.Enum.Declared as Declared
@@ -20,12 +20,9 @@ use Rattle.rules.specs.Order.{Rule}
 use Rattle.rules.specs.Walk.{Level, Walk, End, solution, exhausted, paused, resume}
 use Rattle.rules.specs.Calls.{capped, profile-from, phase-after, blank, moved, next-answer}
 use Rattle.rules.specs.Door.{past}
-use Rattle.problem.specs.CutLaws.{cannot}
+use Rattle.laws.specs.Reached.{joined}
+use Rattle.laws.specs.Lists.{cannot}
 use Rattle.search.specs.Points.{On}
-
--- two walks as one: the second begins where the first ended
-abbrev pub joined : Walk → Walk → Walk
-joined v w = record { end = w .end; at = w .at; visited = v .visited ++ w .visited; updates = v .updates + w .updates }
 
 -- the walks of `walk-to` as one, those on the way to earlier solutions first
 unfoldable pub whole-to : Problem → Rule → ℕ → ℕ → Phase → List Level → Walk

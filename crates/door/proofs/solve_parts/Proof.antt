@@ -13,7 +13,7 @@ use Rattle.rules.specs.Order.{pick}
 use Rattle.rules.specs.Walk.{Walk}
 use Rattle.rules.specs.Calls.{next-said}
 use Rattle.rules.specs.Door.{walk-to}
-use Rattle.problem.specs.CutLaws.{cannot}
+use Rattle.laws.specs.Lists.{cannot}
 use Rattle.problem.specs.Measured.{table-bounds}
 use Rattle.search.specs.Points.{On}
 use Rattle.search.specs.Arrived.{whole-to, Arrived}

@@ -4,9 +4,9 @@ use borrow.Author.Needs.{needs}
 use denote.Ref.{now}
 use Rattle.rules.specs.Problem.{parts}
 use Rattle.rules.specs.Words.{word, nat}
+use Rattle.laws.specs.Lists.{cannot}
 use Rattle.problem.proofs.VerdictLaws.{refused-head, cut-wrong, cut-many, cut-fits}
 use Rattle.problem.specs.Heads.{Headed, Heads}
-use Rattle.problem.specs.CutLaws.{cannot}
 use Rattle.problem.specs.Measured.{countable}
 use Rattle.problem.specs.Sums.{no-sums, total}
 use Rattle.problem.proofs.check.Statement.{statement}
