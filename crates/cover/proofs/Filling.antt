@@ -19,21 +19,21 @@ use Rattle.rules.specs.Words.{word, nat}
 use Rattle.rules.specs.Problem.{Problem}
 use Rattle.rules.specs.Order.{pick}
 use Rattle.rules.specs.Walk.{Level, Walk, End, solution, exhausted, paused, numbers, resume}
-use Rattle.rules.specs.Calls.{cap, capped, profile-from, phase-after, started, next-answer}
+use Rattle.rules.specs.Calls.{cap, capped, profile-from, phase-after, started}
 use Rattle.rules.specs.Cover.{line}
 use Rattle.laws.specs.Lists.{flat-append, cannot}
 use Rattle.laws.specs.Order.{pick-sound}
 use Rattle.laws.specs.Reached.{in-order-length}
-use Rattle.knuth.specs.Trace.{Trace, to-come, remains, found-by}
+use Rattle.knuth.specs.Trace.{Trace, _then_, to-come, remains, found-by, made-by}
 use Rattle.knuth.specs.Walks.{resume-tells}
+use Rattle.knuth.specs.Adds.{resume-spends}
 use Rattle.words.specs.Read.{Natural}
-use Rattle.search.specs.Points.{On, Profile, Ran, Begun}
-use Rattle.search.specs.Arrived.{solved, other, on-level}
+use Rattle.search.specs.Points.{On, Profile, Ran}
+use Rattle.search.specs.Arrived.{solved, unsolved, on-level}
 use Rattle.search.specs.Depth.{level-within}
-use Rattle.cover.specs.declared.page.Page.{Page}
-use Rattle.cover.specs.declared.page.Page.the-variants.{All, More}
 use Rattle.cover.specs.Lines.{Put}
-use Rattle.cover.specs.Pages.{page-of, Lined, FilledMore, FilledAs, Filled}
+use Rattle.cover.specs.Pages.{Coming, Lined, Filling}
+use Rattle.cover.specs.Progress.{line-some}
 use Rattle.cover.proofs.Printing.{line-short, put-as, put-long}
 
 -- ---- the profile
@@ -57,39 +57,64 @@ after e st w = record { phase = phase-after e; depth = length (w .at); updates =
 -- ---- the lines in the buffer
 
 -- one line more
-lined-more : {done : List (List ℕ)} {out out′ : List ℕ} {used used′ : ℕ} (x : List ℕ) → Lined done out used → Put out used (line x) out′ used′ → used + length (line x) ≤ length out → Lined (done ++ x ∷ []) out′ used′
+lined-more : {done : List (List ℕ)} {out out′ : List ℕ} {used used′ : ℕ} (x : List ℕ) → Lined done out used
+    → Put out used (line x) out′ used′ → used + length (line x) ≤ length out → Lined (done ++ x ∷ []) out′ used′
 unfolding flat
 lined-more {done} {out} {out′} {used} {used′} x L p h =
-    let l : length (take used out ++ line x) ≡ used′ = length-append (take used out) (line x) ∙ omega (arith, length-take-le used out (L .within), p .end) in
+    let l : length (take used out ++ line x) ≡ used′ =
+    length-append (take used out) (line x) ∙ omega (arith, length-take-le used out (L .within), p .end) in
     record {
       within = omega (arith, p .end, put-long p);
       is =
-          ap (take used′) (p .is ∙ sets-eq (line x) out used h) ∙ take-at (take used out ++ line x) (drop (used + length (line x)) out) used′ l
-          ∙ ap (λ (y : List ℕ). y ++ line x) (L .is) ∙ ap (λ (y : List ℕ). flat line done ++ y) (sym (append-nil (line x))) ∙ sym (flat-append line done (x ∷ []));
+          ap (take used′) (p .is ∙ sets-eq (line x) out used h)
+          ∙ take-at (take used out ++ line x) (drop (used + length (line x)) out) used′ l
+          ∙ ap (λ (y : List ℕ). y ++ line x) (L .is)
+          ∙ ap (λ (y : List ℕ). flat line done ++ y) (sym (append-nil (line x))) ∙ sym (flat-append line done (x ∷ []));
     }
 
 -- ---- the loop
 
-pub fill-start : {P : Problem} {n : ℕ} {s : List Level} {t path : List ℤ} {profile : List ℕ} {st : State} (out : List ℕ) → Begun P n s t path st → Profile (length path) profile → st .updates ≤ cap
-    → FilledMore P n (to-come P (pick P) (st .phase) s .found) t path profile out st 0
+pub fill-start : {P : Problem} {n : ℕ} {all : List (List ℕ)} {t path : List ℤ} {profile : List ℕ} {st : State}
+    (out : List ℕ) → Coming P n all t path profile st → Filling P n all t path profile out st 0
 unfolding flat
-fill-start {P} {n} {s} {st = st} out B p u = record {
+fill-start {all = all} out C = record {
   done = [];
-  left = to-come P (pick P) (st .phase) s .found;
+  left = all;
   parts = refl;
   lined = record { within = omega arith; is = refl };
-  coming = record { s = s; begun = B; counts = p; small = u; is = refl };
+  coming = C;
 }
 
-module _ {P : Problem} {n : ℕ} {all : List (List ℕ)} {t path : List ℤ} {profile out : List ℕ} {state : State} {used : ℕ} (F : FilledMore P n all t path profile out state used) (most : ℕ) where
+module _ {P : Problem} {n : ℕ} {all : List (List ℕ)} {t path : List ℤ} {profile out : List ℕ} {state : State} {used : ℕ}
+    (F : Filling P n all t path profile out state used) where
   abbrev pub piece : Walk
-  piece = resume P (pick P) most (state .phase) (F .coming .s)
+  piece = resume P (pick P) 18446744073709551615 (state .phase) (F .coming .s)
 
-  -- what was to come is what the walk found, and what is to come where it ended
-  told : F .left ≡ found-by (piece .end) (piece .at) ++ remains P (pick P) (piece .end) (piece .at) .found
-  told = F .coming .is ∙ ap (λ (t : Trace). t .found) (resume-tells P (pick P) (pick-sound P) most (state .phase) (F .coming .s))
+  -- what was to come is what the walk made, and what is to come where it ended
+  told : to-come P (pick P) (state .phase) (F .coming .s)
+      ≡ made-by piece then remains P (pick P) (piece .end) (piece .at)
+  told = resume-tells P (pick P) (pick-sound P) 18446744073709551615 (state .phase) (F .coming .s)
 
-  module _ {t′ path′ : List ℤ} {profile′ : List ℕ} {r : NextAnswer} (R : Ran P n piece (started state) profile t′ path′ profile′ r) (l : length path′ ≡ length path) where
+  visits-told : length (piece .visited) + length (remains P (pick P) (piece .end) (piece .at) .visits)
+      < 18446744073709551615
+  visits-told =
+      omega (
+        arith,
+        F .coming .few,
+        ap (λ (t : Trace). length (t .visits)) told,
+        length-append (piece .visited) (remains P (pick P) (piece .end) (piece .at) .visits),
+      )
+
+  -- a walk pauses only where it has made all the visits allowed
+  never-paused : piece .end ≡ paused → ⊥
+  never-paused e =
+      omega (arith, visits-told, resume-spends P (pick P) 18446744073709551615 (state .phase) (F .coming .s) e)
+
+  found-told : F .left ≡ found-by (piece .end) (piece .at) ++ remains P (pick P) (piece .end) (piece .at) .found
+  found-told = F .coming .is ∙ ap (λ (t : Trace). t .found) told
+
+  module _ {t′ path′ : List ℤ} {profile′ : List ℕ} {r : NextAnswer}
+      (R : Ran P n piece (started state) profile t′ path′ profile′ r) (l : length path′ ≡ length path) where
     counts-after : Profile (length path′) profile′
     counts-after = record {
       long = ap length (R .profile-is) ∙ profile-long 0 (piece .visited) profile ∙ F .coming .counts .long ∙ sym l;
@@ -103,73 +128,70 @@ module _ {P : Problem} {n : ℕ} {all : List (List ℕ)} {t path : List ℤ} {pr
       at-is : at ≡ after solution (started state) piece
       at-is = solved piece (started state) (R .answer) q .1
 
-      pub deep : at .depth ≡ length (piece .at)
+      deep : at .depth ≡ length (piece .at)
       deep = ap (λ (x : State). x .depth) at-is
 
       pub on-there : {d : ℕ} → d ≡ at .depth → On P n (piece .at) t′ path′ d
       on-there e = on-level (R .on) (e ∙ deep)
 
-      pub level-low : {d : ℕ} → d ≡ at .depth → length path ≤ 64 → d ≤ 64
-      level-low e h = omega (arith, level-within (on-there e), l)
+      pub level-low : {d : ℕ} → d ≡ at .depth → d ≤ 64
+      level-low e = omega (arith, level-within (on-there e), l, F .coming .low)
 
       module _ {out′ : List ℕ} {used′ : ℕ} (p : Put out used (line (numbers (piece .at))) out′ used′) where
         pub fill-grows : used < used′
-        fill-grows = omega (arith, p .end, line-short (numbers (piece .at)) .0)
+        fill-grows = omega (arith, p .end, line-some (numbers (piece .at)))
 
-        pub fill-turn : length path ≤ 64 → used + 1345 ≤ length out → FilledMore P n all t′ path′ profile′ out′ at used′
-        fill-turn h room =
+        pub fill-turn : used + 1345 ≤ length out → Filling P n all t′ path′ profile′ out′ at used′
+        fill-turn room =
             let x : List ℕ = numbers (piece .at) in
             let a = at-is in
             let ph : at .phase ≡ Solution = ap (λ (y : State). y .phase) a in
             let left′ : List (List ℕ) = remains P (pick P) solution (piece .at) .found in
-            let e : F .left ≡ x ∷ left′ = told ∙ ap (λ (z : End). found-by z (piece .at) ++ remains P (pick P) z (piece .at) .found) ends in
-            let short : length (line x) ≤ 1345 = omega (arith, line-short x .1, in-order-length (λ c. c .option .number) (piece .at), level-low {d = at .depth} refl h, deep) in
+            let e : F .left ≡ x ∷ left′ =
+            found-told ∙ ap (λ (z : End). found-by z (piece .at) ++ remains P (pick P) z (piece .at) .found) ends in
+            let short : length (line x) ≤ 1345 =
+            omega (
+              arith,
+              line-short x,
+              in-order-length (λ c. c .option .number) (piece .at),
+              level-low {d = at .depth} refl,
+              deep,
+            ) in
             record {
               done = F .done ++ x ∷ [];
               left = left′;
-              parts = F .parts ∙ ap (λ (z : List (List ℕ)). F .done ++ z) e ∙ sym (append-assoc (F .done) (x ∷ []) left′);
+              parts =
+                  F .parts ∙ ap (λ (z : List (List ℕ)). F .done ++ z) e
+                  ∙ sym (append-assoc (F .done) (x ∷ []) left′);
               lined = lined-more x (F .lined) p (omega arith);
               coming = record {
                 s = piece .at;
                 begun = record { on = on-there refl; done-top = λ z. cannot (cc) };
                 counts = counts-after;
                 small = omega (arith, ap (λ (y : State). y .updates) a);
+                low = omega (arith, l, F .coming .low);
+                few = omega (
+                  arith,
+                  visits-told,
+                  ap (λ (z : End). length (remains P (pick P) z (piece .at) .visits)) ends,
+                  ap (λ (z : Phase). length (to-come P (pick P) z (piece .at) .visits)) ph,
+                );
                 is = ap (λ (z : Phase). to-come P (pick P) z (piece .at) .found) (sym ph);
               };
             }
 
-    pub fill-ends : {page : Page} → OneOf (1 ∷ 2 ∷ 3 ∷ []) (Declared.tagOf NextTypes.the-type r) → page ≡ page-of r used → Filled P n all t′ path′ profile′ out page
-    fill-ends {page} k u = record { page = by (piece .end) refl }
+    -- a walk that found no solution left none to come
+    pub fill-ends : OneOf (1 ∷ 2 ∷ 3 ∷ []) (Declared.tagOf NextTypes.the-type r) → Lined all out used
+    fill-ends k = by (piece .end) refl
       where
-        filled-as : {g : Page} → page ≡ g → FilledAs P n all t′ path′ profile′ out g → FilledAs P n all t′ path′ profile′ out page
-        filled-as {g} e f = subst (λ (y : Page). FilledAs P n all t′ path′ profile′ out y) (sym e) f
-
-        told-as : (e : End) → piece .end ≡ e → F .left ≡ found-by e (piece .at) ++ remains P (pick P) e (piece .at) .found
-        told-as e z = told ∙ ap (λ (y : End). found-by y (piece .at) ++ remains P (pick P) y (piece .at) .found) z
-
-        answer-as : (e : End) → piece .end ≡ e → r ≡ next-answer e (after e (started state) piece) (length (piece .visited))
-        answer-as e z = R .answer ∙ ap (λ (y : End). next-answer y (after y (started state) piece) (length (piece .visited))) z
-
-        by : (e : End) → piece .end ≡ e → FilledAs P n all t′ path′ profile′ out page
-        by solution z = absurd (other (rw (answer-as solution z) at k))
+        by : (e : End) → piece .end ≡ e → Lined all out used
+        by solution z = absurd (unsolved piece (started state) (R .answer) k z)
+        by paused z = absurd (never-paused z)
         by exhausted z =
-            filled-as {g = All used} (u ∙ ap (λ (y : NextAnswer). page-of y used) (answer-as exhausted z))
-            (subst (λ (y : List (List ℕ)). Lined y out used) (sym (F .parts ∙ ap (λ (y : List (List ℕ)). F .done ++ y) (told-as exhausted z) ∙ append-nil (F .done))) (F .lined))
-        by paused z =
-            filled-as {g = More (after paused (started state) piece) used} (u ∙ ap (λ (y : NextAnswer). page-of y used) (answer-as paused z))
-            (record {
-              done = F .done;
-              left = F .left;
-              parts = F .parts;
-              lined = F .lined;
-              coming = record {
-                s = piece .at;
-                begun = record { on = R .on; done-top = λ y. cannot (cc) };
-                counts = counts-after;
-                small = omega arith;
-                is = told-as paused z;
-              };
-            })
+            let e : F .left ≡ [] =
+            found-told ∙ ap (λ (y : End). found-by y (piece .at) ++ remains P (pick P) y (piece .at) .found) z in
+            subst (λ (y : List (List ℕ)). Lined y out used)
+            (sym (F .parts ∙ ap (λ (y : List (List ℕ)). F .done ++ y) e ∙ append-nil (F .done))) (F .lined)
 
 -- ---- the numbers of a point
 

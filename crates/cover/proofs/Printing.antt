@@ -125,15 +125,12 @@ number-short n b = omega (arith, length-append (decimal n) (b ∷ []), within-sh
 
 -- ---- a line
 
-pub line-short : (ns : List ℕ) → (1 ≤ length (line ns)) × (length (line ns) ≤ 21 * length ns + 1)
+pub line-short : (ns : List ℕ) → length (line ns) ≤ 21 * length ns + 1
 unfolding line
-line-short [] = (omega arith, omega arith)
-line-short (n ∷ []) = let h = length-append (decimal n) (10 ∷ []) in let k = within-short 20 n in (omega arith, omega arith)
+line-short [] = omega arith
+line-short (n ∷ []) = omega (arith, length-append (decimal n) (10 ∷ []), within-short 20 n)
 line-short (n ∷ m ∷ ns) =
-    let r = line-short (m ∷ ns) in
-    let h = length-append (decimal n) (32 ∷ line (m ∷ ns)) in
-    let k = within-short 20 n in
-    (omega (arith, r .0), omega (arith, r .1))
+    omega (arith, length-append (decimal n) (32 ∷ line (m ∷ ns)), within-short 20 n, line-short (m ∷ ns))
 
 pub space-between : (next count : ℕ) → next < count → _≡_ {A = ℕ} 32 (cond (ltb next count) 32 10)
 space-between next count h = rw (lt-ltb next count h)

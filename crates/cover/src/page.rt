@@ -1,17 +1,14 @@
 // The lines of the solutions, a buffer of them at a time.
 ghost use mathlib.Core.List.{List};
-ghost use Prim.Native.Nat.{_+_, _≤_};
+ghost use Prim.Native.Nat.{ℕ, _+_, _≤_};
 ghost use mathlib.Core.Path.{_≡_};
 ghost use lib.ListN.{length};
 ghost use Rattle.rules.specs.Problem.{Problem};
-ghost use Rattle.rules.specs.Order.{pick};
 ghost use Rattle.rules.specs.Walk.{Level, numbers};
-ghost use Rattle.rules.specs.Calls.{cap};
 ghost use Rattle.rules.specs.Cover.{line};
-ghost use Rattle.knuth.specs.Trace.{to-come};
-ghost use Rattle.search.specs.Points.{On, SomeOn, Begun, SomeBegun, Profile};
+ghost use Rattle.search.specs.Points.{On, SomeOn};
 ghost use Rattle.cover.specs.Lines.{Put};
-ghost use Rattle.cover.specs.Pages.{Filled, page-of};
+ghost use Rattle.cover.specs.Pages.{Coming, SomeComing, Filled};
 use crate::print::put_line;
 use rules::DOOR_ITEMS;
 use rules::NextAnswer;
@@ -35,23 +32,12 @@ fn put_solution(t: &[i32], path: &[i32], n: usize, level: usize, out: &mut [u8],
     requires { ⌜ SomeOn n (now t) (now path) level ⌝ }
     requires { ⌜ level ≤ 64 ⌝ }
     requires { ⌜ at + 1345 ≤ length (now out) ⌝ }
-    ensures { λ r. ⌜ ((P : Problem) (s : List Level) → On P n s (now (t .entry)) (now (path .entry)) level → Put (now (out .entry)) at (line (numbers s)) (now (out .exit)) r) ⌝ }
+    ensures { λ r. ⌜ ((P : Problem) (s : List Level) → On P n s (now (t .entry)) (now (path .entry)) level →
+        Put (now (out .entry)) at (line (numbers s)) (now (out .exit)) r) ⌝ }
 {
     let mut found = [0i32; DOOR_ITEMS];
     write_found(t, n, path, &mut found, level);
     put_line(out, at, &found, level)
-}
-
-// Where a walk ended at no solution.
-fn ended(answer: NextAnswer, used: usize) -> Page
-    ensures { λ r. ⌜ r ≡ page-of answer used ⌝ }
-{
-    match answer {
-        NextAnswer::Solution(at, _) => Page::More(at, used),
-        NextAnswer::Exhausted(_, _) => Page::All(used),
-        NextAnswer::Paused(at, _) => Page::More(at, used),
-        NextAnswer::Refused(_, _) => Page::All(used),
-    }
 }
 
 fn wide(x: u32) -> usize
@@ -60,7 +46,8 @@ fn wide(x: u32) -> usize
     x as usize
 }
 
-// Writes the lines of the solutions to come at a point, from the front of the buffer on, for as long as there is room for another.
+// Writes the lines of the solutions to come at a point, from the front of the buffer on, for as long as there is room
+// for another. No search takes MOST visits, so a walk that ends at no solution has met the last.
 pub fn fill(
     t: &mut [i32],
     path: &mut [i32],
@@ -69,18 +56,16 @@ pub fn fill(
     from: State,
     out: &mut [u8],
 ) -> Page
-    requires { ⌜ from .updates ≤ cap ⌝ }
-    requires { ⌜ Profile (length (now path)) (now profile) ⌝ }
-    requires { ⌜ length (now path) ≤ 64 ⌝ }
-    requires { ⌜ SomeBegun n (now t) (now path) from ⌝ }
-    ensures { λ r. ⌜ ((P : Problem) (s : List Level) → Begun P n s (now (t .entry)) (now (path .entry)) from → Filled P n (to-come P (pick P) (from .phase) s .found) (now (t .exit)) (now (path .exit)) (now (profile .exit)) (now (out .exit)) r) ⌝ }
+    requires { ⌜ SomeComing n (now t) (now path) (now profile) from ⌝ }
+    ensures { λ r. ⌜ ((P : Problem) (all : List (List ℕ)) →
+        Coming P n all (now (t .entry)) (now (path .entry)) (now (profile .entry)) from →
+        Filled P n all (now (t .exit)) (now (path .exit)) (now (profile .exit)) (now (out .exit)) r) ⌝ }
 {
     let mut state = from;
     let mut used = 0;
     while LINE <= out.len() - used {
-        let answer = go(t, path, profile, n, state, MOST);
-        let NextAnswer::Solution(at, _) = answer else {
-            return ended(answer, used);
+        let NextAnswer::Solution(at, _) = go(t, path, profile, n, state, MOST) else {
+            return Page::All(used);
         };
         used = put_solution(t, path, n, wide(at.depth), out, used);
         state = at;

@@ -5,6 +5,7 @@ pub mod bad;
 pub mod doors;
 pub mod exercises;
 pub mod problems;
+pub mod streams;
 pub mod texts;
 pub mod trace;
 pub mod verdict;

@@ -121,7 +121,13 @@ pub fn any(random: &mut Random) -> Vec<u8> {
     text.into_bytes()
 }
 
-/// At and past the longest text and the host door's limits.
+/// 13 items with two options each: 8,192 solutions, whose lines fill more than four of the program's pages.
+pub fn several_pages() -> Vec<u8> {
+    let names: Vec<String> = (0..13).map(|item| format!("n{item}")).collect();
+    format!("{0}\n{1}\n{1}\n", names.join(" "), names.join("\n")).into_bytes()
+}
+
+/// At and past the longest text, the host door's limits and a page.
 pub fn at_the_limits() -> Vec<Vec<u8>> {
     let padded = |length: usize| {
         let mut text = b"a\na\n".to_vec();
@@ -154,6 +160,7 @@ pub fn at_the_limits() -> Vec<Vec<u8>> {
         entries(257),
         Vec::new(),
         b"\n".to_vec(),
+        several_pages(),
     ]
 }
 

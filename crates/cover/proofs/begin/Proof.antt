@@ -1,10 +1,5 @@
-use mathlib.Core.List.{[]}
-use native.Mathlib.Omega.{arith}
 use borrow.Author.Needs.{needs}
-use denote.Ref.{now}
-use Rattle.rules.specs.Problem.{cut, meant}
-use Rattle.search.specs.Meant.{top-profile}
-use Rattle.cover.proofs.Showing.{first-filled, top-begun, path-short}
+use Rattle.cover.proofs.Showing.{top-coming}
 use Rattle.cover.proofs.begin.Statement.{statement}
 use Rattle.cover.proofs.begin.Tie as tie
 
@@ -16,10 +11,9 @@ add-fill c = search needs
 
 fill-requires : tie.Need-fill-requires
 fill-requires c κs =
-    let a = c .before .before .before .before .before .before .before .before .before .before .args in
-    let pre = c .before .before .before .before .before .before .before .before .before .before .pre in
-    let init-links = c .before .before .before .before .before .before .init-links in
-    (omega arith, (top-profile (a .s .np) (pre .1 .path-is) (pre .1 .profile-is), (path-short (pre .0) (pre .1 .path-is), (_, _, top-begun (pre .0) (init-links .ensures) (pre .1 .path-is)))))
+    let i = c .before .before .before .before .before .before in
+    let pre = i .before .before .before .before .pre in
+    (_, _, top-coming (pre .0) (i .init-links .ensures) (pre .1 .path-is) (pre .1 .profile-is))
 
 same-length : tie.Need-same-length
 same-length c = search needs
@@ -35,11 +29,10 @@ same-length-4 c = search needs
 
 returns : tie.Need-returns
 returns c =
-    let a = c .before .before .before .before .before .before .before .before .before .before .before .before .before .before .before .before .before .args in
-    let pre = c .before .before .before .before .before .before .before .before .before .before .before .before .before .before .before .before .before .pre in
-    let init-links = c .before .before .before .before .before .before .before .before .before .before .before .before .before .init-links in
-    let fill = c .before .before .before .before .before .before .fill in
-    first-filled (meant (cut (now (a .problem)))) (fill .ensures (meant (cut (now (a .problem)))) [] (top-begun (pre .0) (init-links .ensures) (pre .1 .path-is)))
+    let f = c .before .before .before .before .before .before in
+    let i = f .before .before .before .before .before .before .before in
+    let pre = i .before .before .before .before .pre in
+    f .fill .ensures _ _ (top-coming (pre .0) (i .init-links .ensures) (pre .1 .path-is) (pre .1 .profile-is))
 
 pub begin-spec : {M : Type 1} → statement M
 begin-spec =

@@ -1,118 +1,170 @@
-use mathlib.Core.List.{List}
 use mathlib.Core.Path.{_≡_, refl, sym, _∙_}
-use Prim.Native.Nat.{ℕ}
+use Prim.Native.Nat.{_-_}
 use native.Mathlib.Omega.{arith}
 use borrow.Author.Needs.{needs}
 use lib.ListN.{length}
-use lib.Seq.{length-take-le}
 use Rattle.rules.specs.Problem.{cut, meant}
-use Rattle.cover.specs.Pages.{Filled}
-use Rattle.cover.proofs.Showing.{all-within, more-filled, path-short}
+use Rattle.laws.specs.Lists.{cannot}
+use Rattle.cover.proofs.Showing.{Paging, first-page, last-due, last-sent}
+use Rattle.cover.proofs.Showing.{more-due, more-some, more-coming, more-sent}
 use Rattle.cover.proofs.show.Statement.{statement}
 use Rattle.cover.proofs.show.Tie as tie
 
 abbrev Inv-loop : tie.InvT-loop
-Inv-loop problem t₀ path₀ profile₀ out₀ n page₀ pages₀ t path profile out page pages = ((length t ≡ length t₀) × (length path ≡ length path₀) × (length profile ≡ length profile₀) × (length out ≡ length out₀)) × ((all : List (List ℕ)) × Filled (meant (cut problem)) n all t path profile out page)
+Inv-loop text problem t₀ path₀ profile₀ out₀ sent₀ n page₀ t path profile out sent page =
+    (length t ≡ length t₀)
+    × (length path ≡ length path₀)
+    × (length profile ≡ length profile₀)
+    × (length out ≡ 65536)
+    × Paging text (meant (cut problem)) n t path profile out sent page
 
 abbrev μ-loop : tie.MeasureT-loop
-μ-loop problem t₀ path₀ profile₀ out₀ n page₀ pages₀ t path profile out page pages = pages
+μ-loop text problem t₀ path₀ profile₀ out₀ sent₀ n page₀ t path profile out sent page = 9223372036854775808 - sent
+
+-- ---- the places that the needs look back to
+
+abbrev start : tie.After-begin Inv-loop μ-loop → tie.Start Inv-loop μ-loop
+start c = c .before .before .before .before .before .before .before .before .before
+
+abbrev began : tie.At-loop Inv-loop μ-loop → tie.After-begin Inv-loop μ-loop
+began c = c .before .before .before .before .before .before .before
+
+abbrev last-at : tie.After-put-page Inv-loop μ-loop → tie.At-loop Inv-loop μ-loop
+last-at c = c .before .before .before .before .before .before .before
+
+abbrev more-at : tie.After-turn Inv-loop μ-loop → tie.At-loop Inv-loop μ-loop
+more-at c = c .before .before .before .before .before .before .before .before .before .before
+
+abbrev turning : tie.After-slice-known6 Inv-loop μ-loop → tie.After-turn Inv-loop μ-loop
+turning c = c .before .before .before .before .before .before
+
+-- ---- the needs
 
 add-n : tie.Need-add-n Inv-loop μ-loop
-add-n c = omega (arith, c .before .before .before .pre .0 .bounds .few-items)
+add-n c = omega (arith, c .before .before .before .before .pre .1 .0 .bounds .few-items)
 
 begin-requires : tie.Need-begin-requires Inv-loop μ-loop
-begin-requires c κs = c .before .before .before .before .before .before .before .pre
+begin-requires c κs =
+    let pre = c .before .before .before .before .before .before .before .before .pre in
+    (pre .1 .0, pre .1 .1 .0)
 
 loop-holds : tie.Need-loop-holds Inv-loop μ-loop
-loop-holds c = ((refl, refl, refl, refl), (_, c .before .before .before .before .before .before .begin .ensures))
+loop-holds c =
+    let b = c .before .before .before .before .before .before in
+    let pre = start b .pre in (
+      refl,
+      refl,
+      refl,
+      b .begin .kept .1 .1 .1 .1 .1 .0 ∙ pre .1 .1 .1 .0,
+      first-page _ (pre .0) (pre .1 .1 .1 .1) (b .begin .ensures),
+    )
 
 enum-known-page : tie.Need-enum-known-page Inv-loop μ-loop
 enum-known-page c = search needs
 
-slice-reshare-prefix-write-all : tie.Need-slice-reshare-prefix-write-all Inv-loop μ-loop
-slice-reshare-prefix-write-all c = all-within (c .before .before .before .before .loop .inv .1 .1) (c .before .page .given .1)
-
-slice-aggregate-write-all : tie.Need-slice-aggregate-write-all Inv-loop μ-loop
-slice-aggregate-write-all c = sym (length-take-le _ _ (all-within (c .before .before .before .before .before .loop .inv .1 .1) (c .before .before .page .given .1)))
-
-write-all-requires : tie.Need-write-all-requires Inv-loop μ-loop
-write-all-requires c κs = search needs
+put-page-requires : tie.Need-put-page-requires Inv-loop μ-loop
+put-page-requires c κs =
+    let loop = c .before .before .before .before .before .before .loop in
+    let loop-test = c .before .before .before .before .before .loop-test in
+    let d = last-due (loop .inv .4) (c .before .before .before .page .given .1) in
+    (d, omega (arith, d .within, loop .inv .3, loop-test .taken))
 
 same-length : tie.Need-same-length Inv-loop μ-loop
-same-length c =
-    let begin = c .before .before .before .before .before .before .before .before .before .before .before .before .before .begin in
-    let loop = c .before .before .before .before .before .before .loop in
-    loop .inv .0 .0 ∙ begin .kept .1 .1 .0
+same-length c = last-at c .loop .inv .0 ∙ began (last-at c) .begin .kept .1 .1 .0
 
 same-length-2 : tie.Need-same-length-2 Inv-loop μ-loop
-same-length-2 c =
-    let begin = c .before .before .before .before .before .before .before .before .before .before .before .before .before .begin in
-    let loop = c .before .before .before .before .before .before .loop in
-    loop .inv .0 .1 ∙ begin .kept .1 .1 .1 .0
+same-length-2 c = last-at c .loop .inv .1 ∙ began (last-at c) .begin .kept .1 .1 .1 .0
 
 same-length-3 : tie.Need-same-length-3 Inv-loop μ-loop
-same-length-3 c =
-    let begin = c .before .before .before .before .before .before .before .before .before .before .before .before .before .begin in
-    let loop = c .before .before .before .before .before .before .loop in
-    loop .inv .0 .2 ∙ begin .kept .1 .1 .1 .1 .0
+same-length-3 c = last-at c .loop .inv .2 ∙ began (last-at c) .begin .kept .1 .1 .1 .1 .0
 
 same-length-4 : tie.Need-same-length-4 Inv-loop μ-loop
-same-length-4 c =
-    let begin = c .before .before .before .before .before .before .before .before .before .before .before .before .before .begin in
-    let loop = c .before .before .before .before .before .before .loop in
-    loop .inv .0 .3 ∙ begin .kept .1 .1 .1 .1 .1 .0
+same-length-4 c = last-at c .loop .inv .3 ∙ sym (start (began (last-at c)) .pre .1 .1 .1 .0)
 
 returns : tie.Need-returns Inv-loop μ-loop
-returns c = tt
+returns c =
+    λ _. c .put-page .ensures ∙ last-sent (last-at c .loop .inv .4) (c .before .before .before .before .page .given .1)
 
 enum-known-page-2 : tie.Need-enum-known-page-2 Inv-loop μ-loop
 enum-known-page-2 c = search needs
 
-slice-reshare-prefix-write-all-2 : tie.Need-slice-reshare-prefix-write-all-2 Inv-loop μ-loop
-slice-reshare-prefix-write-all-2 c = more-filled (c .before .before .before .before .loop .inv .1 .1) (c .before .page2 .given .1) .lined .within
+turn-requires : tie.Need-turn-requires Inv-loop μ-loop
+turn-requires c κs =
+    let loop = c .before .before .before .before .before .before .before .before .before .loop in
+    let loop-test = c .before .before .before .before .before .before .before .before .loop-test in
+    let e = c .before .before .before .before .before .before .page2 .given .1 in
+    let d = more-due (loop .inv .4) e in
+    (d, (omega (arith, d .within, loop .inv .3, loop-test .taken), (_, _, more-coming (loop .inv .4) e)))
 
-slice-aggregate-write-all-2 : tie.Need-slice-aggregate-write-all-2 Inv-loop μ-loop
-slice-aggregate-write-all-2 c = sym (length-take-le _ _ (more-filled (c .before .before .before .before .before .loop .inv .1 .1) (c .before .before .page2 .given .1) .lined .within))
+enum-known-turned : tie.Need-enum-known-turned Inv-loop μ-loop
+enum-known-turned c = search needs
 
-write-all-requires-2 : tie.Need-write-all-requires-2 Inv-loop μ-loop
-write-all-requires-2 c κs = search needs
+enum-told : tie.Need-enum-told Inv-loop μ-loop
+enum-told c = search needs
 
-fill-requires : tie.Need-fill-requires Inv-loop μ-loop
-fill-requires c κs =
-    let pre = c .before .before .before .before .before .before .before .before .before .before .before .before .before .before .before .before .before .before .before .before .before .before .before .before .before .pre in
-    let begin = c .before .before .before .before .before .before .before .before .before .before .before .before .before .before .before .before .before .begin in
-    let loop = c .before .before .before .before .before .before .before .before .before .before .loop in
-    let page2 = c .before .before .before .before .before .before .before .page2 in
-    (let F = more-filled (loop .inv .1 .1) (page2 .given .1) in (F .coming .small, (F .coming .counts, (omega (arith, path-short (pre .0) (pre .1 .path-is), loop .inv .0 .1, begin .kept .1 .1 .1 .0), (_, _, F .coming .begun)))))
+same-length-5 : tie.Need-same-length-5 Inv-loop μ-loop
+same-length-5 c =
+    let d = turning (c .before .before) in
+    let l = more-at d in
+    d .turn .kept .1 .0 ∙ l .loop .inv .0 ∙ began l .begin .kept .1 .1 .0
 
-sub-pages : tie.Need-sub-pages Inv-loop μ-loop
-sub-pages c = omega arith
+same-length-6 : tie.Need-same-length-6 Inv-loop μ-loop
+same-length-6 c =
+    let d = turning (c .before .before) in
+    let l = more-at d in
+    d .turn .kept .1 .1 .0 ∙ l .loop .inv .1 ∙ began l .begin .kept .1 .1 .1 .0
+
+same-length-7 : tie.Need-same-length-7 Inv-loop μ-loop
+same-length-7 c =
+    let d = turning (c .before .before) in
+    let l = more-at d in
+    d .turn .kept .1 .1 .1 .0 ∙ l .loop .inv .2 ∙ began l .begin .kept .1 .1 .1 .1 .0
+
+same-length-8 : tie.Need-same-length-8 Inv-loop μ-loop
+same-length-8 c =
+    let d = turning (c .before .before) in
+    let l = more-at d in
+    d .turn .kept .1 .1 .1 .1 .1 .1 .0 ∙ l .loop .inv .3 ∙ sym (start (began l) .pre .1 .1 .1 .0)
+
+returns-2 : tie.Need-returns-2 Inv-loop μ-loop
+returns-2 c = λ z. cannot (cc)
 
 loop-less : tie.Need-loop-less Inv-loop μ-loop
-loop-less c = omega arith
+loop-less c =
+    let d = turning (c .before .before .before) in
+    let l = more-at d in
+    let e = d .before .before .before .before .before .before .before .page2 .given .1 in
+    let loop-test = d .before .before .before .before .before .before .before .before .before .loop-test in
+    omega (arith, d .turn .ensures .0, more-some (l .loop .inv .4) e (l .loop .inv .3), loop-test .taken)
 
 loop-again : tie.Need-loop-again Inv-loop μ-loop
 loop-again c =
-    let a = c .before .before .before .before .before .before .before .before .before .before .before .before .before .before .before .before .before .before .before .before .before .before .before .before .before .before .before .before .before .before .before .before .args in
-    let loop = c .before .before .before .before .before .before .before .before .before .before .before .before .before .before .before .before .before .loop in
-    let page2 = c .before .before .before .before .before .before .before .before .before .before .before .before .before .before .page2 in
-    let fill = c .before .before .before .before .before .before .fill in
-    ((fill .kept .0 ∙ loop .inv .0 .0, fill .kept .1 .0 ∙ loop .inv .0 .1, fill .kept .1 .1 .0 ∙ loop .inv .0 .2, fill .kept .1 .1 .1 .1 .1 .0 ∙ loop .inv .0 .3), (let F = more-filled (loop .inv .1 .1) (page2 .given .1) in (_, fill .ensures (meant (cut (a .problem .now))) (F .coming .s) (F .coming .begun))))
+    let d = turning (c .before .before .before) in
+    let inv = more-at d .loop .inv in
+    let e = d .before .before .before .before .before .before .before .page2 .given .1 in
+    let kept = d .turn .kept .1 in
+    let filled = d .turn .ensures .1 _ _ (more-coming (inv .4) e) in (
+      kept .0 ∙ inv .0,
+      kept .1 .0 ∙ inv .1,
+      kept .1 .1 .0 ∙ inv .2,
+      kept .1 .1 .1 .1 .1 .0 ∙ inv .3,
+      more-sent (inv .4) e (d .turn .ensures .0) filled (c .before .turned .given .1),
+    )
 
-same-length-5 : tie.Need-same-length-5 Inv-loop μ-loop
-same-length-5 c = c .before .loop .inv .0 .0 ∙ c .before .before .before .before .before .before .before .before .begin .kept .1 .1 .0
+same-length-9 : tie.Need-same-length-9 Inv-loop μ-loop
+same-length-9 c = c .before .loop .inv .0 ∙ began (c .before) .begin .kept .1 .1 .0
 
-same-length-6 : tie.Need-same-length-6 Inv-loop μ-loop
-same-length-6 c = c .before .loop .inv .0 .1 ∙ c .before .before .before .before .before .before .before .before .begin .kept .1 .1 .1 .0
+same-length-10 : tie.Need-same-length-10 Inv-loop μ-loop
+same-length-10 c = c .before .loop .inv .1 ∙ began (c .before) .begin .kept .1 .1 .1 .0
 
-same-length-7 : tie.Need-same-length-7 Inv-loop μ-loop
-same-length-7 c = c .before .loop .inv .0 .2 ∙ c .before .before .before .before .before .before .before .before .begin .kept .1 .1 .1 .1 .0
+same-length-11 : tie.Need-same-length-11 Inv-loop μ-loop
+same-length-11 c = c .before .loop .inv .2 ∙ began (c .before) .begin .kept .1 .1 .1 .1 .0
 
-same-length-8 : tie.Need-same-length-8 Inv-loop μ-loop
-same-length-8 c = c .before .loop .inv .0 .3 ∙ c .before .before .before .before .before .before .before .before .begin .kept .1 .1 .1 .1 .1 .0
+same-length-12 : tie.Need-same-length-12 Inv-loop μ-loop
+same-length-12 c = c .before .loop .inv .3 ∙ sym (start (began (c .before)) .pre .1 .1 .1 .0)
 
-returns-2 : tie.Need-returns-2 Inv-loop μ-loop
-returns-2 c = tt
+returns-3 : tie.Need-returns-3 Inv-loop μ-loop
+returns-3 c = λ z. cannot (cc)
 
 pub show-spec : {M : Type 1} → statement M
 show-spec =
@@ -124,24 +176,25 @@ show-spec =
     begin-requires
     loop-holds
     enum-known-page
-    slice-reshare-prefix-write-all
-    slice-aggregate-write-all
-    write-all-requires
+    put-page-requires
     same-length
     same-length-2
     same-length-3
     same-length-4
     returns
     enum-known-page-2
-    slice-reshare-prefix-write-all-2
-    slice-aggregate-write-all-2
-    write-all-requires-2
-    fill-requires
-    sub-pages
-    loop-less
-    loop-again
+    turn-requires
+    enum-known-turned
+    enum-told
     same-length-5
     same-length-6
     same-length-7
     same-length-8
-    returns-2)
+    returns-2
+    loop-less
+    loop-again
+    same-length-9
+    same-length-10
+    same-length-11
+    same-length-12
+    returns-3)

@@ -6,7 +6,7 @@ use std::process::{Command, Stdio};
 use judge::author::{Author, Tally};
 use judge::doors::{self, Caller, Door};
 use judge::trace::{At, Trace};
-use judge::{Random, bad, exercises, problems, texts};
+use judge::{Random, bad, exercises, problems, streams, texts};
 use model::replay::LONGEST_INPUT;
 
 const RANDOM_PROBLEMS: usize = 100_000;
@@ -218,20 +218,22 @@ fn try_at_door(words: &[i32], random: &mut Random, door: Option<Door>, tally: &m
 fn compare_texts(program: Option<&str>, count: usize, seed: u64) {
     let mut random = Random::new(seed);
     let mut kinds = std::collections::BTreeMap::<&str, u64>::new();
-    let mut lines = 0;
+    let (mut lines, mut longest) = (0, 0);
     let drawn = (0..count).map(|_| None);
     for text in texts::at_the_limits().into_iter().map(Some).chain(drawn) {
         let text = text.unwrap_or_else(|| texts::any(&mut random));
         let (kind, expected) = texts::exercise(&text);
         *kinds.entry(kind).or_default() += 1;
         lines += expected.lines().count();
+        longest = longest.max(expected.len());
         if let Some(program) = program {
             let shown = String::from_utf8_lossy(&text[..text.len().min(400)]).into_owned();
             let written = run(program, text);
             assert_eq!(String::from_utf8_lossy(&written), expected, "text {shown:?}");
         }
     }
-    println!("texts: {count} random ones and those at the limits, {lines} lines to print; {kinds:?}");
+    println!("texts: {count} random ones and those at the limits; {kinds:?}");
+    println!("  {lines} lines to print, at most {longest} bytes of one text");
 }
 
 #[cfg(feature = "door")]
@@ -276,6 +278,7 @@ fn main() {
         }
         ["text", program, ref rest @ ..] => {
             let (count, seed) = how_many(rest);
+            streams::exercise(program);
             compare_texts(Some(program), count, seed);
         }
         ["replay", program, ref rest @ ..] => {

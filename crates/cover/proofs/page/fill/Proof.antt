@@ -1,118 +1,153 @@
 use mathlib.Core.List.{List}
 use mathlib.Core.Path.{_≡_, refl, _∙_}
-use Prim.Native.Nat.{_-_, _≤_}
+use Prim.Native.Nat.{ℕ, _+_, _-_, _≤_}
 use native.Mathlib.Omega.{arith}
 use borrow.Author.Needs.{needs}
 use lib.ListN.{length}
-use Rattle.rules.specs.Order.{pick}
 use Rattle.rules.specs.Problem.{Problem}
-use Rattle.rules.specs.Walk.{Level}
-use Rattle.knuth.specs.Trace.{to-come}
-use Rattle.search.specs.Points.{Begun}
-use Rattle.cover.specs.Pages.{FilledMore}
+use Rattle.cover.specs.Pages.{Coming, Filling}
 use Rattle.cover.proofs.Filling.{fill-start, fill-turn, fill-grows, fill-ends, on-there, level-low}
 use Rattle.cover.proofs.Printing.{put-long}
 use Rattle.cover.proofs.page.fill.Statement.{statement}
 use Rattle.cover.proofs.page.fill.Tie as tie
 
 abbrev Inv-loop : tie.InvT-loop
-Inv-loop t₀ path₀ profile₀ n out₀ state₀ used₀ t path profile out state used = ((length t ≡ length t₀) × (length path ≡ length path₀) × (length profile ≡ length profile₀) × (length out ≡ length out₀)) × (used ≤ length out) × ((P : Problem) (s : List Level) → Begun P n s t₀ path₀ state₀ → FilledMore P n (to-come P (pick P) (state₀ .phase) s .found) t path profile out state used)
+Inv-loop t₀ path₀ profile₀ n out₀ state₀ used₀ t path profile out state used =
+    (length t ≡ length t₀)
+    × (length path ≡ length path₀)
+    × (length profile ≡ length profile₀)
+    × (length out ≡ length out₀)
+    × (used ≤ length out)
+    × ((P : Problem) (all : List (List ℕ)) → Coming P n all t₀ path₀ profile₀ state₀
+    → Filling P n all t path profile out state used)
 
 abbrev μ-loop : tie.MeasureT-loop
 μ-loop t₀ path₀ profile₀ n out₀ state₀ used₀ t path profile out state used = length out - used
 
+-- ---- the places that the needs look back to
+
+abbrev start : tie.At-loop Inv-loop μ-loop → tie.Start Inv-loop μ-loop
+start c = c .before .before .before
+
+abbrev looped : tie.After-go Inv-loop μ-loop → tie.At-loop Inv-loop μ-loop
+looped c = c .before .before .before .before .before
+
+abbrev gone : tie.After-slice-known3 Inv-loop μ-loop → tie.After-go Inv-loop μ-loop
+gone c = c .before .before .before .before
+
+abbrev solved : tie.After-wide Inv-loop μ-loop → tie.After-at Inv-loop μ-loop
+solved c = c .before .before .before .before
+
+-- ---- the needs
+
 loop-holds : tie.Need-loop-holds Inv-loop μ-loop
-loop-holds c = ((refl, refl, refl, refl), omega arith, λ P s B. fill-start _ B (c .before .before .pre .1 .0) (c .before .before .pre .0))
+loop-holds c = (refl, refl, refl, refl, omega arith, λ P all C. fill-start _ C)
 
 sub-loop : tie.Need-sub-loop Inv-loop μ-loop
-sub-loop c = c .loop .inv .1
+sub-loop c = c .loop .inv .4
 
 go-requires : tie.Need-go-requires Inv-loop μ-loop
 go-requires c κs =
-    let pre = c .before .before .before .before .before .before .before .pre in
-    let loop = c .before .before .before .before .loop in
-    (let F = loop .inv .2 (pre .1 .1 .1 .0) (pre .1 .1 .1 .1) (pre .1 .1 .1 .2) in (F .coming .small, (F .coming .counts, (_, _, F .coming .begun))))
+    let l = c .before .before .before .before in
+    let C = l .loop .inv .5 _ _ (start l .pre .2) .coming in
+    (C .small, (C .counts, (_, _, C .begun)))
 
-enum-known-answer : tie.Need-enum-known-answer Inv-loop μ-loop
-enum-known-answer c = search needs
-
-ended-requires : tie.Need-ended-requires Inv-loop μ-loop
-ended-requires c κs = search needs
+enum-known-at : tie.Need-enum-known-at Inv-loop μ-loop
+enum-known-at c = search needs
 
 same-length : tie.Need-same-length Inv-loop μ-loop
-same-length c =
-    let loop = c .before .before .before .before .before .before .before .before .before .before .before .loop in
-    let go = c .before .before .before .before .before .before .go in
-    go .kept .0 ∙ loop .inv .0 .0
+same-length c = let g = gone (c .before) in g .go .kept .0 ∙ looped g .loop .inv .0
 
 same-length-2 : tie.Need-same-length-2 Inv-loop μ-loop
-same-length-2 c =
-    let loop = c .before .before .before .before .before .before .before .before .before .before .before .loop in
-    let go = c .before .before .before .before .before .before .go in
-    go .kept .1 .0 ∙ loop .inv .0 .1
+same-length-2 c = let g = gone (c .before) in g .go .kept .1 .0 ∙ looped g .loop .inv .1
 
 same-length-3 : tie.Need-same-length-3 Inv-loop μ-loop
-same-length-3 c =
-    let loop = c .before .before .before .before .before .before .before .before .before .before .before .loop in
-    let go = c .before .before .before .before .before .before .go in
-    go .kept .1 .1 .0 ∙ loop .inv .0 .2
+same-length-3 c = let g = gone (c .before) in g .go .kept .1 .1 .0 ∙ looped g .loop .inv .2
 
 same-length-4 : tie.Need-same-length-4 Inv-loop μ-loop
-same-length-4 c = c .before .before .before .before .before .before .before .before .before .before .before .loop .inv .0 .3
+same-length-4 c = looped (gone (c .before)) .loop .inv .3
 
 returns : tie.Need-returns Inv-loop μ-loop
 returns c =
-    let loop = c .before .before .before .before .before .before .before .before .before .before .before .loop in
-    let go = c .before .before .before .before .before .before .go in
-    λ P s B. let F = loop .inv .2 P s B in fill-ends F 18446744073709551615 (go .ensures P (F .coming .s) (F .coming .begun)) (go .kept .1 .0) (c .before .match .keys2) (c .ended .ensures)
+    let g = gone (c .before) in
+    λ P all C.
+    let F = looped g .loop .inv .5 P all C in
+    record { page = fill-ends F (g .go .ensures P _ (F .coming .begun)) (g .go .kept .1 .0) (c .match .keys2) }
 
 wide-requires : tie.Need-wide-requires Inv-loop μ-loop
 wide-requires c κs = search needs
 
 put-solution-requires : tie.Need-put-solution-requires Inv-loop μ-loop
 put-solution-requires c κs =
-    let pre = c .before .before .before .before .before .before .before .before .before .before .before .before .before .before .before .before .before .before .before .pre in
-    let loop = c .before .before .before .before .before .before .before .before .before .before .before .before .before .before .before .before .loop in
-    let loop-test = c .before .before .before .before .before .before .before .before .before .before .before .before .before .before .before .loop-test in
-    let go = c .before .before .before .before .before .before .before .before .before .before .before .go in
-    let answer = c .before .before .before .before .before .answer in
-    (let F = loop .inv .2 (pre .1 .1 .1 .0) (pre .1 .1 .1 .1) (pre .1 .1 .1 .2) in let R = go .ensures (pre .1 .1 .1 .0) (F .coming .s) (F .coming .begun) in ((_, _, on-there F 18446744073709551615 R (go .kept .1 .0) (answer .given .1) (c .before .wide .ensures)), (level-low F 18446744073709551615 R (go .kept .1 .0) (answer .given .1) (c .before .wide .ensures) (omega (arith, loop .inv .0 .1, pre .1 .1 .0)), omega (arith, loop-test .taken, loop .inv .1))))
+    let w = c .before in
+    let a = solved w in
+    let g = gone (a .before .before) in
+    let l = looped g in
+    let F = l .loop .inv .5 _ _ (start l .pre .2) in
+    let R = g .go .ensures _ _ (F .coming .begun) in
+    let k = g .go .kept .1 .0 in
+    let q = a .at .given .1 in
+    let d = w .wide .ensures in
+    let room = g .before .before .before .before .loop-test .taken in
+    ((_, _, on-there F R k q d), (level-low F R k q d, omega (arith, room, l .loop .inv .4)))
 
 loop-less : tie.Need-loop-less Inv-loop μ-loop
 loop-less c =
-    let pre = c .before .before .before .before .before .before .before .before .before .before .before .before .before .before .before .before .before .before .before .before .before .before .pre in
-    let loop = c .before .before .before .before .before .before .before .before .before .before .before .before .before .before .before .before .before .before .before .loop in
-    let loop-test = c .before .before .before .before .before .before .before .before .before .before .before .before .before .before .before .before .before .before .loop-test in
-    let go = c .before .before .before .before .before .before .before .before .before .before .before .before .before .before .go in
-    let answer = c .before .before .before .before .before .before .before .before .answer in
-    let wide = c .before .before .before .before .wide in
-    (let F = loop .inv .2 (pre .1 .1 .1 .0) (pre .1 .1 .1 .1) (pre .1 .1 .1 .2) in let R = go .ensures (pre .1 .1 .1 .0) (F .coming .s) (F .coming .begun) in let O = on-there F 18446744073709551615 R (go .kept .1 .0) (answer .given .1) (wide .ensures) in let p = c .before .before .put-solution .ensures _ _ O in omega (arith, put-long p, fill-grows F 18446744073709551615 R (go .kept .1 .0) (answer .given .1) p, loop .inv .1, loop-test .taken))
+    let w = c .before .before .before .before in
+    let a = solved w in
+    let g = gone (a .before .before) in
+    let l = looped g in
+    let F = l .loop .inv .5 _ _ (start l .pre .2) in
+    let R = g .go .ensures _ _ (F .coming .begun) in
+    let k = g .go .kept .1 .0 in
+    let q = a .at .given .1 in
+    let p = c .before .before .put-solution .ensures _ _ (on-there F R k q (w .wide .ensures)) in
+    let room = g .before .before .before .before .loop-test .taken in
+    omega (arith, put-long p, fill-grows F R k q p, room, l .loop .inv .4)
 
 loop-again : tie.Need-loop-again Inv-loop μ-loop
 loop-again c =
-    let pre = c .before .before .before .before .before .before .before .before .before .before .before .before .before .before .before .before .before .before .before .before .before .before .pre in
-    let loop = c .before .before .before .before .before .before .before .before .before .before .before .before .before .before .before .before .before .before .before .loop in
-    let loop-test = c .before .before .before .before .before .before .before .before .before .before .before .before .before .before .before .before .before .before .loop-test in
-    let go = c .before .before .before .before .before .before .before .before .before .before .before .before .before .before .go in
-    let answer = c .before .before .before .before .before .before .before .before .answer in
-    let wide = c .before .before .before .before .wide in
+    let w = c .before .before .before .before in
+    let a = solved w in
+    let g = gone (a .before .before) in
+    let l = looped g in
+    let inv = l .loop .inv in
+    let k = g .go .kept .1 .0 in
+    let q = a .at .given .1 in
+    let d = w .wide .ensures in
     let put-solution = c .before .before .put-solution in
-    ((go .kept .0 ∙ loop .inv .0 .0, go .kept .1 .0 ∙ loop .inv .0 .1, go .kept .1 .1 .0 ∙ loop .inv .0 .2, (let F = loop .inv .2 (pre .1 .1 .1 .0) (pre .1 .1 .1 .1) (pre .1 .1 .1 .2) in let R = go .ensures (pre .1 .1 .1 .0) (F .coming .s) (F .coming .begun) in put-long (put-solution .ensures _ _ (on-there F 18446744073709551615 R (go .kept .1 .0) (answer .given .1) (wide .ensures))) ∙ loop .inv .0 .3)), (let F = loop .inv .2 (pre .1 .1 .1 .0) (pre .1 .1 .1 .1) (pre .1 .1 .1 .2) in let R = go .ensures (pre .1 .1 .1 .0) (F .coming .s) (F .coming .begun) in let O = on-there F 18446744073709551615 R (go .kept .1 .0) (answer .given .1) (wide .ensures) in fill-turn F 18446744073709551615 R (go .kept .1 .0) (answer .given .1) (put-solution .ensures _ _ O) (omega (arith, loop .inv .0 .1, pre .1 .1 .0)) (omega (arith, loop-test .taken, loop .inv .1)) .lined .within), λ P s B. let F = loop .inv .2 P s B in let R = go .ensures P (F .coming .s) (F .coming .begun) in let O = on-there F 18446744073709551615 R (go .kept .1 .0) (answer .given .1) (wide .ensures) in fill-turn F 18446744073709551615 R (go .kept .1 .0) (answer .given .1) (put-solution .ensures P _ O) (omega (arith, loop .inv .0 .1, pre .1 .1 .0)) (omega (arith, loop-test .taken, loop .inv .1)))
+    let test = g .before .before .before .before .loop-test .taken in
+    let room : l .loop .used + 1345 ≤ length (l .loop .out) = omega (arith, test, inv .4) in
+    let F = inv .5 _ _ (start l .pre .2) in
+    let R = g .go .ensures _ _ (F .coming .begun) in
+    let p = put-solution .ensures _ _ (on-there F R k q d) in (
+      g .go .kept .0 ∙ inv .0,
+      k ∙ inv .1,
+      g .go .kept .1 .1 .0 ∙ inv .2,
+      put-long p ∙ inv .3,
+      fill-turn F R k q p room .lined .within,
+      λ P all C.
+          let G = inv .5 P all C in
+          let S = g .go .ensures P _ (G .coming .begun) in
+          fill-turn G S k q (put-solution .ensures P _ (on-there G S k q d)) room,
+    )
 
 same-length-5 : tie.Need-same-length-5 Inv-loop μ-loop
-same-length-5 c = c .before .loop .inv .0 .0
+same-length-5 c = c .before .loop .inv .0
 
 same-length-6 : tie.Need-same-length-6 Inv-loop μ-loop
-same-length-6 c = c .before .loop .inv .0 .1
+same-length-6 c = c .before .loop .inv .1
 
 same-length-7 : tie.Need-same-length-7 Inv-loop μ-loop
-same-length-7 c = c .before .loop .inv .0 .2
+same-length-7 c = c .before .loop .inv .2
 
 same-length-8 : tie.Need-same-length-8 Inv-loop μ-loop
-same-length-8 c = c .before .loop .inv .0 .3
+same-length-8 c = c .before .loop .inv .3
 
 returns-2 : tie.Need-returns-2 Inv-loop μ-loop
-returns-2 c = λ P s B. record { page = c .before .loop .inv .2 P s B }
+returns-2 c =
+    let l = c .before .loop in
+    λ P all C. record { page = record { filling = l .inv .5 P all C; full = omega (arith, c .loop-test .left) } }
 
 pub fill-spec : {M : Type 1} → statement M
 fill-spec =
@@ -123,8 +158,7 @@ fill-spec =
     loop-holds
     sub-loop
     go-requires
-    enum-known-answer
-    ended-requires
+    enum-known-at
     same-length
     same-length-2
     same-length-3

@@ -1,0 +1,20 @@
+use mathlib.Core.Path.{sym}
+use borrow.Author.Needs.{needs}
+use lib.Seq.{length-take-le}
+use Rattle.cover.proofs.streams.put_page.Statement.{statement}
+use Rattle.cover.proofs.streams.put_page.Tie as tie
+
+add-sent : tie.Need-add-sent
+add-sent c = search needs
+
+slice-aggregate-write-all : tie.Need-slice-aggregate-write-all
+slice-aggregate-write-all c = sym (length-take-le _ _ (c .before .before .before .before .pre .0 .within))
+
+write-all-requires : tie.Need-write-all-requires
+write-all-requires c κs = search needs
+
+returns : tie.Need-returns
+returns c = search needs
+
+pub put-page-spec : {M : Type 1} → statement M
+put-page-spec = tie.close (tie.spec add-sent slice-aggregate-write-all write-all-requires returns)
