@@ -83,10 +83,6 @@ module _ (L : Limits) (room : Sizes → Bool) (ws : List ℤ) (fit : Bool) (at :
       unfolding search-refusal
       at-point g = rw (e, f, g)
 
-      pub at-none : got at ≡ true → search-refusal L room ws fit at ≡ 0
-      unfolding search-refusal
-      at-none g = rw (e, f, g)
-
 got-some : (o : Option (List Level)) → T (got o) → (s : List Level) × (o ≡ some s)
 got-some none t = absurd t
 got-some (some s) t = (s, refl)

@@ -33,8 +33,7 @@ use Rattle.search.specs.Arrived.{solved, unsolved, on-level}
 use Rattle.search.specs.Depth.{level-within}
 use Rattle.cover.specs.Lines.{Put}
 use Rattle.cover.specs.Pages.{Coming, Lined, Filling}
-use Rattle.cover.specs.Progress.{line-some}
-use Rattle.cover.proofs.Printing.{line-short, put-as, put-long}
+use Rattle.cover.proofs.Printing.{line-short, put-as, put-long, line-some}
 
 -- ---- the profile
 

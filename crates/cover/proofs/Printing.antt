@@ -125,6 +125,13 @@ number-short n b = omega (arith, length-append (decimal n) (b ∷ []), within-sh
 
 -- ---- a line
 
+-- a line has its end
+pub line-some : (ns : List ℕ) → 1 ≤ length (line ns)
+unfolding line
+line-some [] = omega arith
+line-some (n ∷ []) = omega (arith, length-append (decimal n) (10 ∷ []))
+line-some (n ∷ m ∷ ns) = omega (arith, length-append (decimal n) (32 ∷ line (m ∷ ns)))
+
 pub line-short : (ns : List ℕ) → length (line ns) ≤ 21 * length ns + 1
 unfolding line
 line-short [] = omega arith

@@ -1,8 +1,9 @@
 -- From an accepted problem to its pages, and the lines that are printed. Assumes nothing.
+use mathlib.Core.Logic.{_⊎_, inl, inr}
 use mathlib.Core.Bool.{Bool}
 use mathlib.Core.List.{List, [], _∷_, _++_, map, append-nil}
 use mathlib.Core.Path.{_≡_, refl, sym, ap, _∙_, subst}
-use Prim.Native.Nat.{ℕ, zero, suc, _+_, _≤_, _<_}
+use Prim.Native.Nat.{ℕ, zero, suc, _+_, _≤_, _<_, _-_}
 use native.Mathlib.Omega.{arith}
 use lib.IntN.{ℤ, pos}
 use lib.ListN.{length, take, drop, replicate, length-append, length-drop, length-map, length-replicate}
@@ -29,12 +30,12 @@ use Rattle.search.specs.Meant.{top-on, top-profile}
 use Rattle.cover.specs.declared.page.Page.{Page}
 use Rattle.cover.specs.declared.page.Page.the-variants.{All, More}
 use Rattle.cover.specs.declared.Turned.{Turned}
-use Rattle.cover.specs.declared.Turned.the-variants.{To}
+use Rattle.cover.specs.declared.Turned.the-variants.{To, Lost}
 use Rattle.cover.specs.declared.open.Opened.{Opened}
 use Rattle.cover.specs.Lines.{Put}
 use Rattle.cover.specs.Opening.{Opens}
-use Rattle.cover.specs.Pages.{Coming, Lined, FilledMore, FilledAs, Filled, TurnedAs}
-use Rattle.knuth.specs.Written.{Due}
+use Rattle.cover.specs.Pages.{Coming, Lined, FilledMore, FilledAs, Filled, MovedAs, TurnedAs}
+use Rattle.knuth.specs.Written.{Due, lost, Moved, Ended}
 use Rattle.cover.proofs.Printing.{line-short, put-long}
 
 -- ---- the first page
@@ -87,6 +88,33 @@ take-zeros x zero (suc k) h = absurd (omega arith)
 take-zeros x (suc n) (suc k) h = ap (λ (l : List _). x ∷ l) (take-zeros x n k (omega arith))
 
 -- ---- what is sent
+
+-- the last write: all is sent, or it failed
+pub last-write : (text : List ℕ) {sent used sent′ : ℕ} → Moved sent used sent′
+    → sent + used ≡ length (printed text) → Ended text sent′
+last-write text {sent} {used} {sent′} m e = by (m .on)
+  where
+    by : (sent′ ≡ sent + used) ⊎ (sent′ ≡ lost) → Ended text sent′
+    by (inl w) = inl (w ∙ e)
+    by (inr w) = inr (omega arith)
+
+-- every other write brings the end nearer
+pub nearer : {sent used sent′ : ℕ} → Moved sent used sent′ → 0 < used → sent < 9223372036854775808
+    → 9223372036854775808 - sent′ < 9223372036854775808 - sent
+nearer {sent} {used} {sent′} m h l = by (m .on)
+  where
+    by : (sent′ ≡ sent + used) ⊎ (sent′ ≡ lost) → 9223372036854775808 - sent′ < 9223372036854775808 - sent
+    by (inl w) = omega arith
+    by (inr w) = omega arith
+
+-- where a page was turned, and where it could not be
+pub turned : (sent used sent′ : ℕ) {u : Turned} {next : Page} → MovedAs sent used sent′ u → u ≡ To next
+    → Moved sent used sent′
+turned sent used sent′ m q = subst (λ (x : Turned). MovedAs sent used sent′ x) q m
+
+pub stopped : (sent used sent′ : ℕ) {u : Turned} → MovedAs sent used sent′ u → u ≡ Lost → 9223372036854775808 ≤ sent′
+stopped sent used sent′ m q =
+    let l : sent′ ≡ lost = subst (λ (x : Turned). MovedAs sent used sent′ x) q m in omega arith
 
 -- `sent` bytes are written, and the lines of these solutions are the others
 pub record Unsent (text : List ℕ) (sent : ℕ) (left : List (List ℕ)) : Type 0 where
@@ -176,15 +204,19 @@ module _ {text : List ℕ} {P : Problem} {n : ℕ} {t path : List ℤ} {profile 
     more-coming = more .filling .coming
 
     pub more-sent : {t′ path′ : List ℤ} {profile′ out′ : List ℕ} {sent′ : ℕ} {u : Turned} {next : Page}
-        → sent′ ≡ sent + used → TurnedAs P n (more .filling .left) t′ path′ profile′ out′ u → u ≡ To next
-        → Paging text P n t′ path′ profile′ out′ sent′ next
-    more-sent {t′} {path′} {profile′} {out′} w f q =
-        let F = more .filling in
-        record {
-          left = F .left;
-          unsent = sent-on text (F .done) (F .left) out (S .unsent) (F .parts) (F .lined) w;
-          filled = subst (λ (x : Turned). TurnedAs P n (F .left) t′ path′ profile′ out′ x) q f;
-        }
+        → Moved sent used sent′ → TurnedAs P n (more .filling .left) t′ path′ profile′ out′ u → u ≡ To next
+        → sent′ < 9223372036854775808 → Paging text P n t′ path′ profile′ out′ sent′ next
+    more-sent {t′} {path′} {profile′} {out′} {sent′} {next = next} m f q h = by (m .on)
+      where
+        by : (sent′ ≡ sent + used) ⊎ (sent′ ≡ lost) → Paging text P n t′ path′ profile′ out′ sent′ next
+        by (inl w) =
+            let F = more .filling in
+            record {
+              left = F .left;
+              unsent = sent-on text (F .done) (F .left) out (S .unsent) (F .parts) (F .lined) w;
+              filled = subst (λ (x : Turned). TurnedAs P n (F .left) t′ path′ profile′ out′ x) q f;
+            }
+        by (inr w) = absurd (omega arith)
 
 -- ---- the text
 

@@ -12,6 +12,7 @@ use Rattle.rules.specs.Walk.{Level}
 use Rattle.rules.specs.Calls.{cap}
 use Rattle.rules.specs.Cover.{line}
 use Rattle.knuth.specs.Trace.{to-come}
+use Rattle.knuth.specs.Written.{lost, Moved}
 use Rattle.search.specs.Points.{Begun, Profile}
 use Rattle.cover.specs.declared.Turned.{Turned}
 use Rattle.cover.specs.declared.Turned.the-variants.{To, Lost}
@@ -60,6 +61,11 @@ FilledAs P n all t path profile out (More st used) = FilledMore P n all t path p
 pub record Filled (P : Problem) (n : ℕ) (all : List (List ℕ)) (t path : List ℤ) (profile out : List ℕ) (r : Page)
     : Type 0 where
   pub page : FilledAs P n all t path profile out r
+
+-- what writing the page did to the count of bytes sent: where no page follows, the write failed
+abbrev pub MovedAs : ℕ → ℕ → ℕ → Turned → Type 0
+MovedAs sent used sent′ (To page) = Moved sent used sent′
+MovedAs sent used sent′ Lost = sent′ ≡ lost
 
 -- the next page, if this one could be written
 abbrev pub TurnedAs : Problem → ℕ → List (List ℕ) → List ℤ → List ℤ → List ℕ → List ℕ → Turned → Type 0

@@ -15,8 +15,8 @@ ghost use Rattle.rules.specs.Walk.{listed};
 ghost use Rattle.rules.specs.Cover.{accepted, opened, printed};
 ghost use Rattle.problem.specs.Room.{Accepted};
 ghost use Rattle.door.specs.Solved.{Parts};
-ghost use Rattle.cover.specs.Pages.{Coming, SomeComing, Filled, TurnedAs};
-ghost use Rattle.knuth.specs.Written.{Due, AllSent};
+ghost use Rattle.cover.specs.Pages.{Coming, SomeComing, Filled, MovedAs, TurnedAs};
+ghost use Rattle.knuth.specs.Written.{Due, Ended};
 use init::init_links;
 use init::table_words;
 use open::Opened;
@@ -31,6 +31,7 @@ use rules::DOOR_ITEMS;
 use rules::Phase;
 use rules::Sizes;
 use rules::State;
+use streams::LOST;
 use streams::put_page;
 use streams::read_text;
 use streams::say_unwritten;
@@ -80,12 +81,13 @@ fn turn(
     requires { ⌜ Due (printed (now text)) (now sent) (now out) used ⌝ }
     requires { ⌜ now sent + used < 18446744073709551616 ⌝ }
     requires { ⌜ SomeComing n (now t) (now path) (now profile) at ⌝ }
-    ensures { λ _. ⌜ now (sent .exit) ≡ now (sent .entry) + used ⌝ }
+    ensures { λ r. ⌜ MovedAs (now (sent .entry)) used (now (sent .exit)) r ⌝ }
     ensures { λ r. ⌜ ((P : Problem) (all : List (List ℕ)) →
         Coming P n all (now (t .entry)) (now (path .entry)) (now (profile .entry)) at →
         TurnedAs P n all (now (t .exit)) (now (path .exit)) (now (profile .exit)) (now (out .exit)) r) ⌝ }
 {
-    if !put_page(text, out, used, sent) {
+    put_page(text, out, used, sent);
+    if *sent == LOST {
         return Turned::Lost;
     }
     Turned::To(fill(t, path, profile, n, at, out))
@@ -94,7 +96,7 @@ fn turn(
 // A proved loop has to end: nobody waits for as many bytes.
 const MOST_BYTES: u64 = 9223372036854775808;
 
-// Prints page after page, and answers whether all was written.
+// Prints page after page.
 fn show(
     text: &[u8],
     problem: &[i32],
@@ -104,38 +106,40 @@ fn show(
     profile: &mut [u64],
     out: &mut [u8],
     sent: &mut u64,
-) -> bool
+)
     requires { ⌜ opened (now text) ≡ accepted (now problem) ⌝ }
     requires { ⌜ Accepted door-limits 1 (λ s. true) (now problem) s ⌝ }
     requires { ⌜ Parts s (now t) (now path) (now profile) ⌝ }
     requires { ⌜ length (now out) ≡ 65536 ⌝ }
     requires { ⌜ now sent ≡ 0 ⌝ }
-    ensures { λ r. ⌜ AllSent (now (text .entry)) (now (sent .exit)) r ⌝ }
+    ensures { λ _. ⌜ Ended (now (text .entry)) (now (sent .exit)) ⌝ }
 {
     let n = s.np + s.ns;
     let mut page = begin(problem, s, t, path, profile, out);
     while *sent < MOST_BYTES {
         match page {
-            Page::All(used) => return put_page(text, out, used, sent),
+            Page::All(last) => {
+                put_page(text, out, last, sent);
+                return;
+            }
             Page::More(at, used) => {
                 let turned = turn(text, t, path, profile, n, at, out, used, sent);
                 let Turned::To(next) = turned else {
-                    return false;
+                    return;
                 };
                 page = next;
             }
         }
     }
-    false
 }
 
 // Prints every solution of an accepted problem.
-fn solve(text: &[u8], problem: &[i32], s: Sizes, out: &mut [u8], sent: &mut u64) -> bool
+fn solve(text: &[u8], problem: &[i32], s: Sizes, out: &mut [u8], sent: &mut u64)
     requires { ⌜ opened (now text) ≡ accepted (now problem) ⌝ }
     requires { ⌜ Accepted door-limits 1 (λ s. true) (now problem) s ⌝ }
     requires { ⌜ length (now out) ≡ 65536 ⌝ }
     requires { ⌜ now sent ≡ 0 ⌝ }
-    ensures { λ r. ⌜ AllSent (now (text .entry)) (now (sent .exit)) r ⌝ }
+    ensures { λ _. ⌜ Ended (now (text .entry)) (now (sent .exit)) ⌝ }
 {
     let mut table = [0i32; TABLE_WORDS];
     let mut path = [0i32; DOOR_ITEMS];
@@ -151,24 +155,24 @@ fn solve(text: &[u8], problem: &[i32], s: Sizes, out: &mut [u8], sent: &mut u64)
         &mut profile[..np],
         out,
         sent,
-    )
+    );
 }
 
-// Prints what the rules say of a text, and answers whether all of it was written.
-fn answer(text: &[u8], sent: &mut u64) -> bool
+// Prints what the rules say of a text.
+fn answer(text: &[u8], sent: &mut u64)
     requires { ⌜ now sent ≡ 0 ⌝ }
-    ensures { λ r. ⌜ AllSent (now (text .entry)) (now (sent .exit)) r ⌝ }
+    ensures { λ _. ⌜ Ended (now (text .entry)) (now (sent .exit)) ⌝ }
 {
     let mut words = [0i32; PROBLEM_WORDS];
     let mut out = io::large_buffer();
     match open(text, &mut words) {
         Opened::Refused(number) => {
             let used = put_refused(&mut out, number);
-            put_page(text, &out, used, sent)
+            put_page(text, &out, used, sent);
         }
         Opened::Faulty(line) => {
             let used = put_faulty(&mut out, 13, line);
-            put_page(text, &out, used, sent)
+            put_page(text, &out, used, sent);
         }
         Opened::Accepted(length, s) => solve(text, &words[..length], s, &mut out, sent),
     }
@@ -178,7 +182,8 @@ fn main() {
     let mut input = [0u8; 65537];
     let count = read_text(&mut input);
     let mut sent = 0;
-    if !answer(&input[..count], &mut sent) {
+    answer(&input[..count], &mut sent);
+    if MOST_BYTES <= sent {
         say_unwritten();
     }
 }

@@ -1,10 +1,9 @@
 // The program's input and output.
-ghost use mathlib.Core.Path.{_≡_};
 ghost use Prim.Native.Nat.{_+_, _<_};
 ghost use lib.ListN.{length};
 ghost use Rattle.rules.specs.Cover.{printed};
 ghost use Rattle.io.specs.Counts.{Counts};
-ghost use Rattle.knuth.specs.Written.{Due};
+ghost use Rattle.knuth.specs.Written.{Due, Moved};
 ghost use Rattle.cover.specs.Streams.{GotWithin};
 use libc::STDERR_FILENO;
 use libc::STDIN_FILENO;
@@ -45,15 +44,22 @@ pub fn read_text(buf: &mut [u8]) -> usize
     done
 }
 
+// The count of bytes sent after a write that failed.
+pub const LOST: u64 = 18446744073709551615;
+
 // Writes the first `used` bytes of the buffer, which are those of what is printed of the text from place `sent` on, and
-// moves `sent` past them. Nothing else writes to standard output, and nothing else moves `sent`.
-pub fn put_page(text: &[u8], out: &[u8], used: usize, sent: &mut u64) -> bool
+// moves `sent` past them, or to LOST if the write fails. Nothing else writes to standard output, and nothing else moves
+// `sent`.
+pub fn put_page(text: &[u8], out: &[u8], used: usize, sent: &mut u64)
     requires { ⌜ Due (printed (now text)) (now sent) (now out) used ⌝ }
     requires { ⌜ now sent + used < 18446744073709551616 ⌝ }
-    ensures { λ _. ⌜ now (sent .exit) ≡ now (sent .entry) + used ⌝ }
+    ensures { λ _. ⌜ Moved (now (sent .entry)) used (now (sent .exit)) ⌝ }
 {
-    *sent += used as u64;
-    io::write_all(STDOUT_FILENO, &out[..used])
+    if io::write_all(STDOUT_FILENO, &out[..used]) {
+        *sent += used as u64;
+    } else {
+        *sent = LOST;
+    }
 }
 
 // Says that the output could not be written.

@@ -2,16 +2,18 @@
 use mathlib.Core.Path.{_≡_, refl, ap, _∙_}
 use mathlib.Core.List.{List}
 use Prim.Native.Nat.{ℕ, zero, suc, _+_}
+use native.Mathlib.Omega.{arith}
 use lib.IntN.{ℤ}
 use lib.ListN.{length, length-append}
 use Rattle.rules.specs.declared.Phase.the-variants.{Ready}
 use Rattle.rules.specs.declared.State.{State}
 use Rattle.rules.specs.declared.Limits.{Limits}
+use Rattle.rules.specs.declared.NextAnswer.the-variants as NextSays
 use Rattle.rules.specs.Problem.{Problem, cut, meant, sizes}
 use Rattle.rules.specs.Order.{pick}
 use Rattle.rules.specs.Links.{fresh, table}
 use Rattle.rules.specs.Walk.{Level, made, End, solution, exhausted, paused, Walk, resume}
-use Rattle.rules.specs.Calls.{moved, started, NextLent, NextOutcome, next-answer, next-call, walked}
+use Rattle.rules.specs.Calls.{moved, started, NextLent, NextOutcome, next-answer, next-call, walked, next-refusal}
 use Rattle.laws.specs.Order.{pick-sound}
 use Rattle.knuth.specs.Lists.{over-over}
 use Rattle.knuth.specs.Counts.{capped-twice}
@@ -19,13 +21,12 @@ use Rattle.knuth.specs.Twice.{table-twice, path-twice, counted-twice}
 use Rattle.knuth.specs.Trace.{go-on-from}
 use Rattle.knuth.specs.Adds.{resume-adds}
 use Rattle.knuth.specs.Ends.{reached-deep, Ends, resume-ends}
-use Rattle.rules.specs.Calls.{next-refusal}
 use Rattle.laws.specs.Reached.{joined}
 use Rattle.knuth.specs.Series.{problem, with-visits, then-call-from, then-call}
 use Rattle.knuth.specs.Stands.{Stands, accepted→, next-walked, next-stands, walk-of, walk-ended}
 
 answer-visits : (e : End) (st : State) (n k : ℕ) → with-visits n (next-answer e st k) ≡ next-answer e st (n + k)
-answer-visits solution st n k = refl
+answer-visits solution st n k = ap (NextSays.Solution st) (omega arith)
 answer-visits exhausted st n k = refl
 answer-visits paused st n k = refl
 

@@ -1,6 +1,6 @@
 -- Bytes written page by page.
 use mathlib.Core.Path.{_≡_, refl, sym, ap, _∙_}
-use mathlib.Core.Bool.{Bool, true}
+use mathlib.Core.Logic.{_⊎_}
 use mathlib.Core.List.{List, [], _∷_, _++_, append-nil, append-assoc}
 use Prim.Native.Nat.{ℕ, _+_, _≤_}
 use lib.ListN.{length, take, drop, take-append-drop}
@@ -14,9 +14,17 @@ pub record Due (all : List ℕ) (sent : ℕ) (out : List ℕ) (used : ℕ) : Typ
   pub fits : sent + used ≤ length all
   pub is : take used out ≡ take used (drop sent all)
 
--- where the answer is yes, as many bytes were sent as are printed of the text
-abbrev pub AllSent : List ℕ → ℕ → Bool → Type 0
-AllSent text sent r = r ≡ true → sent ≡ length (printed text)
+-- the count of bytes sent after a write that failed
+abbrev pub lost : ℕ
+lost = 18446744073709551615
+
+-- a write moves the count past its bytes, or it fails
+pub record Moved (sent used sent′ : ℕ) : Type 0 where
+  pub on : (sent′ ≡ sent + used) ⊎ (sent′ ≡ lost)
+
+-- all that is printed of the text was sent; or a write failed, or 2^63 bytes were sent, as the count tells
+abbrev pub Ended : List ℕ → ℕ → Type 0
+Ended text sent = (sent ≡ length (printed text)) ⊎ (9223372036854775808 ≤ sent)
 
 -- Pages that were written one after another, each due, while the count of bytes sent went from one number to another.
 pub data Written (all : List ℕ) : ℕ → List (List ℕ) → ℕ → Type 0 where

@@ -272,6 +272,7 @@ next-as (suc k) P l st at a = record {
 }
 next-as zero P l st at a = walked P l st (resume P (pick P) a (st .phase) (levels-or-top at))
 
+-- the number that Next refuses with, by the counts and the point that it was lent
 abbrev pub next-refusal : Limits → List ℤ → NextLent → State → ℕ
 next-refusal L ws l st =
     search-refusal L (next-room l) ws (counts-fit st (take (cut ws .np) (l .profile)))
@@ -315,6 +316,7 @@ give-up-as zero P l st = record {
   };
 }
 
+-- the number that Give-up refuses with: it is lent no profile, so of the counts the updates alone are tested
 abbrev pub give-up-refusal : Limits → List ℤ → GiveUpLent → State → ℕ
 give-up-refusal L ws l st =
     search-refusal L (give-up-room l) ws (counts-fit st []) (lent-point (cut ws) st (l .table) (l .path))

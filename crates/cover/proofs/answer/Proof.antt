@@ -1,10 +1,10 @@
 use mathlib.Core.List.{[], _∷_}
-use mathlib.Core.Path.{sym}
+use mathlib.Core.Path.{refl, sym}
 use native.Mathlib.Omega.{arith}
 use borrow.Author.Needs.{needs}
 use lib.Seq.{length-take-le}
 use Rattle.cover.specs.declared.open.Opened.the-variants.{Refused, Faulty, Accepted}
-use Rattle.cover.proofs.Showing.{opens-as, refusal-due, refusal-small, refusal-sent}
+use Rattle.cover.proofs.Showing.{last-write, opens-as, refusal-due, refusal-small, refusal-sent}
 use Rattle.cover.proofs.answer.Statement.{statement}
 use Rattle.cover.proofs.answer.Tie as tie
 
@@ -107,7 +107,7 @@ returns c =
     let e = opens-as _ (o .«open» .last .1 .0) (Refused k) (o .«open» .ensures) (n .number .given .1) in
     let room = b .large-buffer .ensures in
     let z = b .before .before .pre in
-    λ _. refusal-sent _ (k ∷ []) e (p .put-refused .ensures) (omega arith) room z (c .put-page .ensures)
+    last-write _ (c .put-page .ensures) (refusal-sent _ (k ∷ []) e (p .put-refused .ensures) (omega arith) room z refl)
 
 returns-2 : tie.Need-returns-2
 returns-2 c =
@@ -119,7 +119,7 @@ returns-2 c =
     let e = opens-as _ (o .«open» .last .1 .0) (Faulty k) (o .«open» .ensures) (n .line .given .1) in
     let room = b .large-buffer .ensures in
     let z = b .before .before .pre in
-    λ _. refusal-sent _ (13 ∷ k ∷ []) e (p .put-faulty .ensures) (omega arith) room z (c .put-page2 .ensures)
+    last-write _ (c .put-page2 .ensures) (refusal-sent _ (13 ∷ k ∷ []) e (p .put-faulty .ensures) (omega arith) room z refl)
 
 returns-3 : tie.Need-returns-3
 returns-3 c = search needs

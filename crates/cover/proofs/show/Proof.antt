@@ -1,11 +1,11 @@
 use mathlib.Core.Path.{_≡_, refl, sym, _∙_}
-use Prim.Native.Nat.{_-_}
+use mathlib.Core.Logic.{inr}
+use Prim.Native.Nat.{_-_, _<_}
 use native.Mathlib.Omega.{arith}
 use borrow.Author.Needs.{needs}
 use lib.ListN.{length}
 use Rattle.rules.specs.Problem.{cut, meant}
-use Rattle.laws.specs.Lists.{cannot}
-use Rattle.cover.proofs.Showing.{Paging, first-page, last-due, last-sent}
+use Rattle.cover.proofs.Showing.{last-write, nearer, turned, stopped, Paging, first-page, last-due, last-sent}
 use Rattle.cover.proofs.Showing.{more-due, more-some, more-coming, more-sent}
 use Rattle.cover.proofs.show.Statement.{statement}
 use Rattle.cover.proofs.show.Tie as tie
@@ -16,7 +16,7 @@ Inv-loop text problem t₀ path₀ profile₀ out₀ sent₀ n page₀ t path pr
     × (length path ≡ length path₀)
     × (length profile ≡ length profile₀)
     × (length out ≡ 65536)
-    × Paging text (meant (cut problem)) n t path profile out sent page
+    × (sent < 9223372036854775808 → Paging text (meant (cut problem)) n t path profile out sent page)
 
 abbrev μ-loop : tie.MeasureT-loop
 μ-loop text problem t₀ path₀ profile₀ out₀ sent₀ n page₀ t path profile out sent page = 9223372036854775808 - sent
@@ -56,7 +56,7 @@ loop-holds c =
       refl,
       refl,
       b .begin .kept .1 .1 .1 .1 .1 .0 ∙ pre .1 .1 .1 .0,
-      first-page _ (pre .0) (pre .1 .1 .1 .1) (b .begin .ensures),
+      λ _. first-page _ (pre .0) (pre .1 .1 .1 .1) (b .begin .ensures),
     )
 
 enum-known-page : tie.Need-enum-known-page Inv-loop μ-loop
@@ -66,7 +66,7 @@ put-page-requires : tie.Need-put-page-requires Inv-loop μ-loop
 put-page-requires c κs =
     let loop = c .before .before .before .before .before .before .loop in
     let loop-test = c .before .before .before .before .before .loop-test in
-    let d = last-due (loop .inv .4) (c .before .before .before .page .given .1) in
+    let d = last-due (loop .inv .4 (loop-test .taken)) (c .before .before .before .page .given .1) in
     (d, omega (arith, d .within, loop .inv .3, loop-test .taken))
 
 same-length : tie.Need-same-length Inv-loop μ-loop
@@ -83,7 +83,8 @@ same-length-4 c = last-at c .loop .inv .3 ∙ sym (start (began (last-at c)) .pr
 
 returns : tie.Need-returns Inv-loop μ-loop
 returns c =
-    λ _. c .put-page .ensures ∙ last-sent (last-at c .loop .inv .4) (c .before .before .before .before .page .given .1)
+    let l = last-at c in
+    last-write _ (c .put-page .ensures) (last-sent (l .loop .inv .4 (c .before .before .before .before .before .before .loop-test .taken)) (c .before .before .before .before .page .given .1))
 
 enum-known-page-2 : tie.Need-enum-known-page-2 Inv-loop μ-loop
 enum-known-page-2 c = search needs
@@ -93,8 +94,9 @@ turn-requires c κs =
     let loop = c .before .before .before .before .before .before .before .before .before .loop in
     let loop-test = c .before .before .before .before .before .before .before .before .loop-test in
     let e = c .before .before .before .before .before .before .page2 .given .1 in
-    let d = more-due (loop .inv .4) e in
-    (d, (omega (arith, d .within, loop .inv .3, loop-test .taken), (_, _, more-coming (loop .inv .4) e)))
+    let S = loop .inv .4 (loop-test .taken) in
+    let d = more-due S e in
+    (d, (omega (arith, d .within, loop .inv .3, loop-test .taken), (_, _, more-coming S e)))
 
 enum-known-turned : tie.Need-enum-known-turned Inv-loop μ-loop
 enum-known-turned c = search needs
@@ -127,7 +129,7 @@ same-length-8 c =
     d .turn .kept .1 .1 .1 .1 .1 .1 .0 ∙ l .loop .inv .3 ∙ sym (start (began l) .pre .1 .1 .1 .0)
 
 returns-2 : tie.Need-returns-2 Inv-loop μ-loop
-returns-2 c = λ z. cannot (cc)
+returns-2 c = inr (stopped _ _ _ (turning (c .before .before) .turn .ensures .0) (c .enum-told .given .1))
 
 loop-less : tie.Need-loop-less Inv-loop μ-loop
 loop-less c =
@@ -135,7 +137,7 @@ loop-less c =
     let l = more-at d in
     let e = d .before .before .before .before .before .before .before .page2 .given .1 in
     let loop-test = d .before .before .before .before .before .before .before .before .before .loop-test in
-    omega (arith, d .turn .ensures .0, more-some (l .loop .inv .4) e (l .loop .inv .3), loop-test .taken)
+    nearer (turned _ _ _ (d .turn .ensures .0) (c .before .turned .given .1)) (more-some (l .loop .inv .4 (loop-test .taken)) e (l .loop .inv .3)) (loop-test .taken)
 
 loop-again : tie.Need-loop-again Inv-loop μ-loop
 loop-again c =
@@ -143,12 +145,15 @@ loop-again c =
     let inv = more-at d .loop .inv in
     let e = d .before .before .before .before .before .before .before .page2 .given .1 in
     let kept = d .turn .kept .1 in
-    let filled = d .turn .ensures .1 _ _ (more-coming (inv .4) e) in (
+    let loop-test = d .before .before .before .before .before .before .before .before .before .loop-test in
+    let S = inv .4 (loop-test .taken) in
+    let filled = d .turn .ensures .1 _ _ (more-coming S e) in
+    let m = turned _ _ _ (d .turn .ensures .0) (c .before .turned .given .1) in (
       kept .0 ∙ inv .0,
       kept .1 .0 ∙ inv .1,
       kept .1 .1 .0 ∙ inv .2,
       kept .1 .1 .1 .1 .1 .0 ∙ inv .3,
-      more-sent (inv .4) e (d .turn .ensures .0) filled (c .before .turned .given .1),
+      λ h. more-sent S e m filled (c .before .turned .given .1) h,
     )
 
 same-length-9 : tie.Need-same-length-9 Inv-loop μ-loop
@@ -164,7 +169,7 @@ same-length-12 : tie.Need-same-length-12 Inv-loop μ-loop
 same-length-12 c = c .before .loop .inv .3 ∙ sym (start (began (c .before)) .pre .1 .1 .1 .0)
 
 returns-3 : tie.Need-returns-3 Inv-loop μ-loop
-returns-3 c = λ z. cannot (cc)
+returns-3 c = inr (omega arith)
 
 pub show-spec : {M : Type 1} → statement M
 show-spec =
