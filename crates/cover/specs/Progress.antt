@@ -30,4 +30,6 @@ page-some {x = x} {xs = xs} {out = out} (More st used) f room =
     by : (done left : List (List ℕ)) → x ∷ xs ≡ done ++ left → Lined done out used → length out < used + 1345
         → (rest : List ℕ) × (take used out ≡ line x ++ rest)
     by [] left e l full = absurd (omega (arith, length-take-le used out (l .within), ap length (l .is)))
-    by (y ∷ ys) left e l full = let same : x ≡ y = cc in (flat line ys, l .is ∙ ap (λ (z : List ℕ). line z ++ flat line ys) (sym same))
+    by (y ∷ ys) left e l full =
+        let same : x ≡ y = cc in
+        (flat line ys, l .is ∙ ap (λ (z : List ℕ). line z ++ flat line ys) (sym same))

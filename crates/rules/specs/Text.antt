@@ -215,8 +215,8 @@ words-of front (i ∷ o ∷ os) = some (text-words (items-of front i) (o ∷ os)
 
 -- ---- the reader
 
--- The number and values of each answer: 0 and how many words were written; 13 and the line; else the refusal's number, 3
--- or 9, which has no value.
+-- The number and values of each answer: 0 and how many words were written; 13 and the line; else the refusal's number,
+-- 3 or 9, which has no value.
 abbrev pub read-said : Reading → List ℕ
 read-said (Words n) = 0 ∷ n ∷ []
 read-said (Faulty line) = 13 ∷ line ∷ []
