@@ -1,4 +1,6 @@
 // The public calls. Each is test, run, write: every refusal comes first, and a call that is accepted runs from a known point.
+#![tactic(auto)]
+
 mod test;
 
 ghost use Rattle.std.specs.Prelude.{◌≡◌, List, [], ◌+◌, ◌≤◌, length, replicate, take, pos};
@@ -78,7 +80,7 @@ pub fn set_up(
     path: &mut [i32],
     profile: &mut [u64],
 ) -> SetUpAnswer
-    ensures { record { answer = result; lent = record { table = table.exit.now; path = path.new; profile = profile.new } } ≡ set_up_call library_limits problem.now (record { table = table.entry.now; path = path.old; profile = profile.old }) }
+    ensures { record { answer = result; lent = record { table = table.new; path = path.new; profile = profile.new } } ≡ set_up_call library_limits problem.now (record { table = table.old; path = path.old; profile = profile.old }) }
 {
     let mut marks = [0usize; LIBRARY_ITEMS];
     let lists = shorter(path.len(), profile.len());
@@ -153,7 +155,7 @@ pub fn next(
     state: State,
     allowance: u64,
 ) -> NextAnswer
-    ensures { record { answer = result; lent = record { table = table.exit.now; spare = spare.new; path = path.new; profile = profile.new; found = found.new } } ≡ next_call library_limits problem.now (record { table = table.entry.now; spare = spare.old; path = path.old; profile = profile.old; found = found.old }) state allowance }
+    ensures { record { answer = result; lent = record { table = table.new; spare = spare.new; path = path.new; profile = profile.new; found = found.new } } ≡ next_call library_limits problem.now (record { table = table.old; spare = spare.old; path = path.old; profile = profile.old; found = found.old }) state allowance }
 {
     let mut marks = [0usize; LIBRARY_ITEMS];
     let more = shorter(profile.len(), found.len());
@@ -173,7 +175,7 @@ pub fn give_up(
     path: &mut [i32],
     state: State,
 ) -> GiveUpAnswer
-    ensures { record { answer = result; lent = record { table = table.exit.now; spare = spare.new; path = path.new } } ≡ give_up_call library_limits problem.now (record { table = table.entry.now; spare = spare.old; path = path.old }) state }
+    ensures { record { answer = result; lent = record { table = table.new; spare = spare.new; path = path.new } } ≡ give_up_call library_limits problem.now (record { table = table.old; spare = spare.old; path = path.old }) state }
 {
     let mut marks = [0usize; LIBRARY_ITEMS];
     let none = [0u64; 1];

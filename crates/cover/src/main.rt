@@ -1,4 +1,6 @@
 // Reads a problem as text from standard input, and prints the option numbers of every solution, a line for each.
+#![tactic(auto)]
+
 mod open;
 mod page;
 mod print;
@@ -46,7 +48,7 @@ fn begin(
 }
 
 // The next page, or none where this one could not be written.
-#[derive(Drop)]
+#[derive(Clone, Copy)]
 enum Turned {
     To(Page),
     Lost,

@@ -14,7 +14,7 @@ pub const TABLE_WORDS: usize = 2 * (DOOR_ITEMS + 2)
     + 4 * (DOOR_ITEMS + 2 + DOOR_ENTRIES + DOOR_OPTIONS);
 
 // A refusal's number, the number of a faulty line, or how many words the problem has, with its sizes.
-#[derive(Drop)]
+#[derive(Clone, Copy)]
 pub enum Opened {
     Refused(usize),
     Faulty(usize),

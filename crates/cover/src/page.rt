@@ -17,7 +17,7 @@ const LINE: usize = 1345;
 const MOST: u64 = 18446744073709551615;
 
 // Bytes of the buffer, with no line to come, or with the state from which the others come.
-#[derive(Drop)]
+#[derive(Clone, Copy)]
 pub enum Page {
     All(usize),
     More(State, usize),

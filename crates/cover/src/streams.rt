@@ -8,7 +8,7 @@ ghost use Rattle.cover.specs.Streams.{GotWithin};
 use libc::{STDERR_FILENO, STDIN_FILENO, STDOUT_FILENO};
 
 // How many bytes a read brought, none where the input ends; or it failed.
-#[derive(Drop)]
+#[derive(Clone, Copy)]
 enum Got {
     Bytes(usize),
     Failed,

@@ -1,4 +1,6 @@
 // Decimal numbers as text. What is read is what the digits say, and what is written reads back as the number that it was.
+#![tactic(auto)]
+
 ghost use Rattle.std.specs.Prelude.{◌&&◌, ◌≡◌, ◌≤◌, ◌<◌, leb, length};
 ghost use Rattle.rules.specs.Words.{word};
 ghost use Rattle.decimal.specs.Text.{digit, longer, number_if, told, unsigned, minus, from_zero, under_zero, signed};
@@ -6,7 +8,7 @@ ghost use Rattle.decimal.specs.Text.{Stored, Wrote, WroteWord};
 ghost use Rattle.decimal.specs.Text.{leads as Text·leads};
 
 // What a text says: a number, or none that is wanted.
-#[derive(Drop)]
+#[derive(Clone, Copy)]
 pub enum Number {
     Is(u64),
     Bad,

@@ -1,4 +1,6 @@
 // The host door: one exported function over bytes, with local tables of the size that its limits ask.
+#![tactic(auto)]
+
 ghost use Rattle.std.specs.Prelude.{◌≡◌, [], ◌∷◌, map, ℕ, ◌+◌, ◌*◌, ◌<◌, ◌≤◌, length, take, drop};
 ghost use Rattle.rules.specs.Lists.{flat, over, got};
 ghost use Rattle.rules.specs.Words.{nat, bytes_words, word_bytes};
@@ -129,7 +131,7 @@ fn solve_parts(
 ) -> u32
     requires accepted { Accepted door_limits 1 (door_room out.old) problem.now s }
     requires parts { Parts s t.old path.old profile.old }
-    ensures* { λ r. ⌜ record { result = r; out = out.new } ≡ door_walked (walk_to (meant (cut problem.now)) (pick (meant (cut problem.now))) number allowance Ready []) out.old ⌝ }
+    ensures { record { result = result; out = out.new } ≡ door_walked (walk_to (meant (cut problem.now)) (pick (meant (cut problem.now))) number allowance Ready []) out.old }
 {
     init_links(t, problem, s);
     let n = s.np + s.ns;
@@ -151,7 +153,7 @@ fn solve_parts(
 // The search of an accepted problem, on tables of its own.
 fn solve(problem: &[i32], s: Sizes, number: u64, allowance: u64, out: &mut [u8]) -> u32
     requires { Accepted door_limits 1 (door_room out.old) problem.now s }
-    ensures* { λ r. ⌜ record { result = r; out = out.new } ≡ door_walked (walk_to (meant (cut problem.now)) (pick (meant (cut problem.now))) number allowance Ready []) out.old ⌝ }
+    ensures { record { result = result; out = out.new } ≡ door_walked (walk_to (meant (cut problem.now)) (pick (meant (cut problem.now))) number allowance Ready []) out.old }
 {
     let mut table = [0i32; TABLE_WORDS];
     let mut path = [0i32; DOOR_ITEMS];
@@ -182,7 +184,7 @@ fn lists_of(len: usize) -> usize
 
 // The door over words.
 fn answer(problem: &[i32], number: u64, allowance: u64, out: &mut [u8]) -> u32
-    ensures* { λ r. ⌜ record { result = r; out = out.new } ≡ door_as (problem_refusal door_limits 1 (door_room out.old) problem.now) (meant (cut problem.now)) number allowance out.old ⌝ }
+    ensures { record { result = result; out = out.new } ≡ door_as (problem_refusal door_limits 1 (door_room out.old) problem.now) (meant (cut problem.now)) number allowance out.old }
 {
     let mut marks = [0usize; DOOR_ITEMS];
     let lists = lists_of(out.len());
@@ -196,7 +198,7 @@ fn answer(problem: &[i32], number: u64, allowance: u64, out: &mut [u8]) -> u32
 // visit is due and the allowance for the whole call is spent, or the number of a refusal. Bytes are words of 32 bits, the lowest byte first.
 #[unsafe(no_mangle)]
 pub extern "C" fn host_door(problem: &[u8], number: u64, allowance: u64, out: &mut [u8]) -> u32
-    ensures* { λ r. ⌜ record { result = r; out = out.new } ≡ door_call problem.now number allowance out.old ⌝ }
+    ensures { record { result = result; out = out.new } ≡ door_call problem.now number allowance out.old }
 {
     if problem.len() % 4 != 0 {
         return 4;

@@ -1,5 +1,7 @@
 // Set-up: the fresh table of a problem whose words passed the test, under the Rust's names. `items` and `opts` have what `lib.rs` has in the
 // traits of these names.
+#![tactic(auto)]
+
 mod items;
 mod opts;
 

@@ -39,7 +39,7 @@ told_mem (o ∷ s) {x} m = step (append_cases (in_turn s) m) (λ k. told_mem s k
     step (inl k) rec = let r = rec k in (r.0, there r.1, r.2)
     step (inr k) rec = (o, here refl, sym (of-singleton k))
 
-told_in : {s : List Placed} {c : Placed} → Mem c s → Mem c.number (in_turn s)
+told_in : {c : Placed} {s : List Placed} → Mem c s → Mem c.number (in_turn s)
 unfolding in_turn
 told_in (here {x = x} {xs = s} e) = in_right (in_turn s) (here (ap (λ (y : Placed). y.number) e))
 told_in (there {x = x} {xs = s} m) = in_left (x.number ∷ []) (told_in m)

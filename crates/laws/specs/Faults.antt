@@ -93,13 +93,13 @@ module _ (np n : ℕ) where
   unfolding option_fault
   option_parts seen x es h = first_none (entry_fault np n seen x) (option_fault np n (x.item ∷ seen) es) h
 
-  option_faultless : (seen : List ℤ) {es : List Pair} {e : Pair} → option_fault np n seen es ≡ 0 → Mem e es → Faultless np n e
-  option_faultless seen {e = y} h (here {x = x} {xs = es} u) = rw u (entry_faultless seen x (option_parts seen x es h).0).0
+  option_faultless : {e : Pair} (seen : List ℤ) {es : List Pair} → option_fault np n seen es ≡ 0 → Mem e es → Faultless np n e
+  option_faultless {e = y} seen h (here {x = x} {xs = es} u) = rw u (entry_faultless seen x (option_parts seen x es h).0).0
   option_faultless seen h (there {x = x} {xs = es} m) = option_faultless (x.item ∷ seen) (option_parts seen x es h).1 m
 
   -- an item seen before is not there
-  unseen : (seen : List ℤ) {es : List Pair} {e : Pair} → option_fault np n seen es ≡ 0 → Mem e es → {z : ℤ} → Mem z seen → T (not (same e.item z))
-  unseen seen {e = y} h (here {x = x} {xs = es} u) {z} m =
+  unseen : {e : Pair} (seen : List ℤ) {es : List Pair} → option_fault np n seen es ≡ 0 → Mem e es → {z : ℤ} → Mem z seen → T (not (same e.item z))
+  unseen {e = y} seen h (here {x = x} {xs = es} u) {z} m =
       rw u
       (not_T (same x.item z)
       (λ t. T_not (has (same x.item) seen) (entry_faultless seen x (option_parts seen x es h).0).1 (has_in (same x.item) m t)))
@@ -116,7 +116,7 @@ module _ (np n : ℕ) where
           rw (← u)
           (apart_items n x.item p.item f.in_range (option_faultless (x.item ∷ seen) h m).in_range (unseen (x.item ∷ seen) h m (here refl)))
 
-  option_of : {os : List (List Pair)} → options_fault np n os ≡ 0 → {o : List Pair} → Mem o os → option_fault np n [] o ≡ 0
+  option_of : {o : List Pair} {os : List (List Pair)} → options_fault np n os ≡ 0 → Mem o os → option_fault np n [] o ≡ 0
   unfolding options_fault
   option_of h (here {x = x} {xs = os} u) = rw u (first_none (option_fault np n [] x) (options_fault np n os) h).0
   option_of h (there {x = x} {xs = os} m) = option_of (first_none (option_fault np n [] x) (options_fault np n os) h).1 m

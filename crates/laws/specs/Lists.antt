@@ -75,12 +75,12 @@ module _ {A : Type 0} where
         step (inl (t, e)) rec = (here e, rw e t)
         step (inr m') rec = let r = rec m' in (there r.0, r.1)
 
-    pub keep_in : {xs : List A} {y : A} → Mem y xs → T (p y) → Mem y (keep p xs)
+    pub keep_in : {y : A} {xs : List A} → Mem y xs → T (p y) → Mem y (keep p xs)
     unfolding keep
     keep_in (here {x = x} {xs = xs} e) t = also_head (p x) (keep p xs) (rw e at t) e
     keep_in (there {x = x} m) t = also_rest (p x) x (keep_in m t)
 
-    pub each_at : {xs : List A} {y : A} → T (each p xs) → Mem y xs → T (p y)
+    pub each_at : {y : A} {xs : List A} → T (each p xs) → Mem y xs → T (p y)
     unfolding each
     each_at t (here {x = x} {xs = xs} e) = rw e (and_left (p x) (each p xs) t)
     each_at t (there {x = x} {xs = xs} m) = each_at (and_right (p x) (each p xs) t) m
@@ -99,7 +99,7 @@ module _ {A : Type 0} where
         step (inl u) rec = (x, here refl, u)
         step (inr u) rec = let r = rec u in (r.0, there r.1, r.2)
 
-    pub has_in : {xs : List A} {y : A} → Mem y xs → T (p y) → T (has p xs)
+    pub has_in : {y : A} {xs : List A} → Mem y xs → T (p y) → T (has p xs)
     unfolding has
     has_in (here {x = x} {xs = xs} e) t = or_left (p x) (has p xs) (rw e at t)
     has_in (there {x = x} {xs = xs} m) t = or_right (p x) (has p xs) (has_in m t)
@@ -114,7 +114,7 @@ module _ {A B : Type 0} (f : A → List B) where
       step (inl m') rec = (x, here refl, m')
       step (inr m') rec = let r = rec m' in (r.0, there r.1, r.2)
 
-  pub flat_in : {xs : List A} {x : A} {y : B} → Mem x xs → Mem y (f x) → Mem y (flat f xs)
+  pub flat_in : {x : A} {xs : List A} {y : B} → Mem x xs → Mem y (f x) → Mem y (flat f xs)
   unfolding flat
   flat_in {y = y} (here {xs = xs} e) m = Memᴰ.append_left (flat f xs) (rw e at m)
   flat_in (there {x = x} m) m' = Memᴰ.append_right (f x) (flat_in m m')
@@ -168,7 +168,7 @@ module _ {A : Type 0} where
     keep_le (x ∷ xs) = also_le (p x) (q x) x (keep p xs) (keep q xs) (h x) (keep_le xs)
 
     -- a stricter test, which some element fails that passed before, keeps fewer
-    pub keep_lt : {xs : List A} {y : A} → Mem y xs → T (p y) → T (not (q y)) → length (keep q xs) < length (keep p xs)
+    pub keep_lt : {y : A} {xs : List A} → Mem y xs → T (p y) → T (not (q y)) → length (keep q xs) < length (keep p xs)
     unfolding keep
     keep_lt (here {x = x} {xs = xs} e) t f = also_drop (p x) (q x) x (keep p xs) (keep q xs) (rw e at t) (rw e at f) (keep_le xs)
     keep_lt (there {x = x} {xs = xs} m) t f = also_lt (p x) (q x) x (keep p xs) (keep q xs) (h x) (keep_lt m t f)

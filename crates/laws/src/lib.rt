@@ -1,1 +1,2 @@
 // Laws of the definitions that several crates cite: see specs/. There is no code here.
+#![tactic(auto)]

@@ -158,7 +158,7 @@ fn is_coloured(t: &[i32], n: usize, q: usize) -> bool
 }
 
 // Where it stands: the header x of its item, and its neighbours u and d in its list.
-#[derive(Drop)]
+#[derive(Clone, Copy)]
 struct Stand {
     x: usize,
     u: usize,

@@ -1,5 +1,7 @@
 // A small night: three runs are due, and two machines have an hour. A run is a primary item, a machine's minute a secondary item, and its
 // colour the runtime loaded there: runs may share a minute of a machine where they want the same runtime.
+#![tactic(auto)]
+
 ghost use Rattle.std.specs.Prelude.{length, ◌≡◌, ◌<◌};
 
 use libc::STDOUT_FILENO;

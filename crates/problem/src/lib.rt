@@ -1,4 +1,6 @@
 // The test of the problem words, for any limits: refusals 1 to 4 and the sizes here, refusals 5 to 8 in `fault`, all of 1 to 9 in `room`.
+#![tactic(auto)]
+
 mod fault;
 pub mod room;
 
@@ -14,21 +16,21 @@ use rules::{Limits, Sizes, Verdict};
 use words::{at_least, is_below, is_natural, link_at};
 
 // What an option's words begin with.
-#[derive(Drop)]
+#[derive(Clone, Copy)]
 enum Count {
     Of(usize),
     Missing,
 }
 
 // An option's entry count, and whether the option is kept.
-#[derive(Drop)]
+#[derive(Clone, Copy)]
 pub enum Entries {
     Of(usize, bool),
     Missing,
 }
 
 // Of the options passed: the entries of all, how many are kept, and the entries of these.
-#[derive(Drop)]
+#[derive(Clone, Copy)]
 struct Sums {
     all: usize,
     kept: usize,
@@ -36,7 +38,7 @@ struct Sums {
 }
 
 // What the options come to.
-#[derive(Drop)]
+#[derive(Clone, Copy)]
 enum Counted {
     Right(Sums),
     Wrong,

@@ -4,7 +4,7 @@ ghost use Rattle.replay.specs.Answers.{Says};
 
 use rules::{GiveUpAnswer, NextAnswer, Phase, SetUpAnswer, State};
 
-#[derive(Drop)]
+#[derive(Clone, Copy)]
 pub struct Said {
     pub number: u32,
     pub visits: u64,

@@ -9,13 +9,13 @@ use decimal::Number;
 use rules::State;
 
 // The state after a line, and how many bytes of output wait.
-#[derive(Drop)]
+#[derive(Clone, Copy)]
 pub enum Done {
     Went(State, usize),
     Bad,
 }
 
-#[derive(Drop)]
+#[derive(Clone, Copy)]
 pub enum Called {
     Said(Said),
     Bad,

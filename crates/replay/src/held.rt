@@ -2,7 +2,7 @@
 use rules::State;
 
 // The lengths lent. The lists themselves stay as long as they are.
-#[derive(Drop)]
+#[derive(Clone, Copy)]
 pub struct Lengths {
     pub problem: usize,
     pub table: usize,
@@ -13,7 +13,7 @@ pub struct Lengths {
 }
 
 // The state of the search, the lengths lent, and how many bytes of output wait.
-#[derive(Drop)]
+#[derive(Clone, Copy)]
 pub struct Held {
     pub state: State,
     pub lengths: Lengths,
@@ -21,7 +21,7 @@ pub struct Held {
 }
 
 // What a line comes to.
-#[derive(Drop)]
+#[derive(Clone, Copy)]
 pub enum Step {
     Went(Held),
     Bad,

@@ -6,14 +6,14 @@ use bytes::scan::find;
 use decimal::Number;
 
 // A number, and where the line goes on.
-#[derive(Drop)]
+#[derive(Clone, Copy)]
 pub enum Operand {
     Is(u64, usize),
     Bad,
 }
 
 // Where the line goes on after a word.
-#[derive(Drop)]
+#[derive(Clone, Copy)]
 pub enum Place {
     At(usize),
     Bad,

@@ -1,4 +1,6 @@
 // Runs the public calls as standard input says, a command a line, and prints each answer with every word lent.
+#![tactic(auto)]
+
 mod answers;
 mod commands;
 mod held;

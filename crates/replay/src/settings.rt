@@ -7,19 +7,19 @@ use crate::line::{Operand, Place, number_at, word_at};
 use rules::{Phase, State};
 use words::put_link;
 
-#[derive(Drop)]
+#[derive(Clone, Copy)]
 pub enum Count {
     Are(usize),
     Bad,
 }
 
-#[derive(Drop)]
+#[derive(Clone, Copy)]
 pub enum LengthsRead {
     Are(Lengths),
     Bad,
 }
 
-#[derive(Drop)]
+#[derive(Clone, Copy)]
 pub enum StateRead {
     Is(State),
     Bad,

@@ -1,9 +1,11 @@
 // The types that every other crate shares, and document 01's limits.
+#![tactic(auto)]
+
 ghost use Rattle.std.specs.Prelude.{◌≡◌};
 ghost use Rattle.rules.specs.Problem.{library_limits, door_limits};
 
 // Ready to visit the point that the path leads to, at a solution there, or done with the search.
-#[derive(Drop)]
+#[derive(Clone, Copy)]
 pub enum Phase {
     Ready,
     Solution,
@@ -11,21 +13,21 @@ pub enum Phase {
 }
 
 // The search state, passed by value beside the lent lists.
-#[derive(Drop)]
+#[derive(Clone, Copy)]
 pub struct State {
     pub phase: Phase,
     pub depth: u32,
     pub updates: u64,
 }
 
-#[derive(Drop)]
+#[derive(Clone, Copy)]
 pub enum SetUpAnswer {
     SetUp(State),
     Refused(State, u32),
 }
 
 // Each answer of Next but a refusal has the visits that the call made.
-#[derive(Drop)]
+#[derive(Clone, Copy)]
 pub enum NextAnswer {
     Solution(State, u64),
     Exhausted(State, u64),
@@ -33,14 +35,14 @@ pub enum NextAnswer {
     Refused(State, u32),
 }
 
-#[derive(Drop)]
+#[derive(Clone, Copy)]
 pub enum GiveUpAnswer {
     GivenUp(State),
     Refused(State, u32),
 }
 
 // What the reader of the text form answers: how many words it wrote, the number of a faulty line, or the number of another refusal.
-#[derive(Drop)]
+#[derive(Clone, Copy)]
 pub enum Reading {
     Words(usize),
     Faulty(usize),
@@ -48,7 +50,7 @@ pub enum Reading {
 }
 
 // How many items, options and entries a problem may have.
-#[derive(Drop)]
+#[derive(Clone, Copy)]
 pub struct Limits {
     pub items: usize,
     pub options: usize,
@@ -56,7 +58,7 @@ pub struct Limits {
 }
 
 // What the cut words say of the problem's size: `kept` options have `entries` entries.
-#[derive(Drop)]
+#[derive(Clone, Copy)]
 pub struct Sizes {
     pub np: usize,
     pub ns: usize,
@@ -66,7 +68,7 @@ pub struct Sizes {
 }
 
 // What the words say before an entry is looked at.
-#[derive(Drop)]
+#[derive(Clone, Copy)]
 pub enum Verdict {
     Refused(u32),
     Sized(Sizes),

@@ -1,4 +1,6 @@
 // The search: the choice of an item in `choose`, a level in `x`, the walk here, and in `point` the test whether lent words are a point.
+#![tactic(auto)]
+
 pub mod choose;
 pub mod point;
 pub mod x;
@@ -20,7 +22,7 @@ use crate::x::{Again, try_again, try_item};
 use rules::{NextAnswer, Phase, State};
 
 // Where a move leads: to a point at a level, with its updates, or nowhere, with every choice taken back.
-#[derive(Drop)]
+#[derive(Clone, Copy)]
 pub enum Way {
     To(usize, u64),
     Out,

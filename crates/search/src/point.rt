@@ -15,7 +15,7 @@ use crate::x::{restore_item, try_item};
 use rules::{Phase, State};
 
 // What a path leads to on the spare: the levels made, and whether path and state are a point there.
-#[derive(Drop)]
+#[derive(Clone, Copy)]
 pub struct Reach {
     pub fits: bool,
     pub level: usize,

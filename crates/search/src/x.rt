@@ -5,7 +5,7 @@ ghost use Rattle.rules.specs.Walk.{Level};
 ghost use Rattle.search.specs.Points.{At, On, Trying, SomeTrying, Tried, SomeLevel, Retried, Last, SomeLast};
 
 // Whether the level has another choice, which is tried then, with its updates.
-#[derive(Drop)]
+#[derive(Clone, Copy)]
 pub enum Again {
     Tried(u64),
     Restored,

@@ -80,7 +80,7 @@ unfolding committed
 committed_old h [] m = m
 committed_old h (n ∷ ns) m = committed_old (n.entry ∷ h) ns (there m)
 
-pub committed_new : (h : List Entry) {ns : List Node} {x : Node} → Mem x ns → Mem x.entry (committed h ns)
+pub committed_new : {x : Node} (h : List Entry) {ns : List Node} → Mem x ns → Mem x.entry (committed h ns)
 unfolding committed
 committed_new h (here {x = n} {xs = ns} u) = committed_old (n.entry ∷ h) ns (here (ap (λ (y : Node). y.entry) u))
 committed_new h (there {x = n} m) = committed_new (n.entry ∷ h) m

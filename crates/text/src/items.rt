@@ -9,14 +9,14 @@ ghost use Rattle.text.specs.Names.{admits, first_class, second_class, placed, lo
 use crate::scan::{Stop, has_sharp, is_bar, is_name, same, scan};
 
 // The number of a name, or the number after those of the names that it is none of.
-#[derive(Drop)]
+#[derive(Clone, Copy)]
 pub enum Place {
     At(usize),
     Past(usize),
 }
 
 // Names of which the numbers follow one another.
-#[derive(Drop)]
+#[derive(Clone, Copy)]
 pub enum Class {
     Any,
     Sharp,

@@ -1,4 +1,6 @@
 // The reader of the text form: from bytes to problem words. It keeps no list of names: places in the text are enough.
+#![tactic(auto)]
+
 mod items;
 mod lines;
 mod options;

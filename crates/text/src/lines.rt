@@ -10,7 +10,7 @@ use crate::options::{option_fault, write_option};
 use crate::scan::{Stop, is_clean, is_passed, scan};
 
 // Where the items line begins and ends, with the number of the line after it; or the number of a faulty line.
-#[derive(Drop)]
+#[derive(Clone, Copy)]
 pub enum Found {
     At(usize, usize, usize),
     Faulty(usize),
@@ -18,7 +18,7 @@ pub enum Found {
 }
 
 // How many options there are, and how many words they have; or the number of a faulty line.
-#[derive(Drop)]
+#[derive(Clone, Copy)]
 pub enum Checked {
     Are(usize, usize),
     Faulty(usize),

@@ -11,14 +11,14 @@ use crate::scan::{Stop, same, scan};
 use words::put_link;
 
 // A token's name ends at a place, and it has a colour, 0 for none.
-#[derive(Drop)]
+#[derive(Clone, Copy)]
 pub enum Token {
     Is(usize, usize),
     Bad,
 }
 
 // The item and the colour that a token stands for.
-#[derive(Drop)]
+#[derive(Clone, Copy)]
 pub enum Entered {
     Is(usize, usize),
     Nothing,

@@ -5,7 +5,7 @@ ghost use Rattle.rules.specs.Text.{allowed, white, name_byte, same_name, is_bar,
 ghost use Rattle.text.specs.Scan.{stops_at, Stopped, one_after};
 
 // What a scan stops at: the end of a line, white space, anything else, a colon, a `#`, a byte that is refused, or one that no name has.
-#[derive(Drop)]
+#[derive(Clone, Copy)]
 pub enum Stop {
     Lf,
     White,

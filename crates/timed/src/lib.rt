@@ -1,4 +1,6 @@
 // What the benchmark times, over lists that the host lends: set-up, single calls of Next, and the loop of the search alone.
+#![tactic(auto)]
+
 ghost use Rattle.std.specs.Prelude.{◌≡◌, List, ℤ};
 ghost use Rattle.rules.specs.Problem.{cut, meant};
 ghost use Rattle.rules.specs.Calls.{blank, next_said};
@@ -22,7 +24,7 @@ pub extern "C" fn timed_set_up(
     path: &mut [i32],
     profile: &mut [u64],
 ) -> u32
-    ensures* { λ r. ⌜ record { result = r; lent = record { table = table.exit.now; path = path.new; profile = profile.new } } ≡ set_up_timed problem.now (record { table = table.entry.now; path = path.old; profile = profile.old }) ⌝ }
+    ensures { record { result = result; lent = record { table = table.new; path = path.new; profile = profile.new } } ≡ set_up_timed problem.now (record { table = table.old; path = path.old; profile = profile.old }) }
 {
     match set_up(problem, table, path, profile) {
         SetUpAnswer::SetUp(_) => 0,
@@ -41,7 +43,7 @@ pub extern "C" fn timed_next(
     found: &mut [i32],
     most: u64,
 ) -> u64
-    ensures* { λ r. ⌜ record { result = r; lent = record { table = table.exit.now; spare = spare.new; path = path.new; profile = profile.new; found = found.new } } ≡ next_timed problem.now most (record { table = table.entry.now; spare = spare.old; path = path.old; profile = profile.old; found = found.old }) blank ⌝ }
+    ensures { record { result = result; lent = record { table = table.new; spare = spare.new; path = path.new; profile = profile.new; found = found.new } } ≡ next_timed problem.now most (record { table = table.old; spare = spare.old; path = path.old; profile = profile.old; found = found.old }) blank }
 {
     let mut state = State {
         phase: Phase::Ready,
@@ -80,8 +82,8 @@ fn walk_fronts(
     s: Sizes,
     number: u64,
 ) -> NextAnswer
-    requires { (ws : List ℤ) × Top ws s (record { table = table.now; path = path.old; profile = profile.old }) }
-    ensures* { λ r. ⌜ ((ws : List ℤ) → Top ws s (record { table = table.entry.now; path = path.old; profile = profile.old }) → record { result = (next_said r).number; lent = record { table = table.exit.now; path = path.new; profile = profile.new } } ≡ walked (meant (cut ws)) number (record { table = table.entry.now; path = path.old; profile = profile.old })) ⌝ }
+    requires { (ws : List ℤ) × Top ws s (record { table = table.old; path = path.old; profile = profile.old }) }
+    ensures { (ws : List ℤ) → Top ws s (record { table = table.old; path = path.old; profile = profile.old }) → record { result = (next_said result).number; lent = record { table = table.new; path = path.new; profile = profile.new } } ≡ walked (meant (cut ws)) number (record { table = table.old; path = path.old; profile = profile.old }) }
 {
     let words = table_words(s);
     let np = s.np;
@@ -106,7 +108,7 @@ pub extern "C" fn timed_walk(
     profile: &mut [u64],
     number: u64,
 ) -> u32
-    ensures* { λ r. ⌜ record { result = r; lent = record { table = table.exit.now; path = path.new; profile = profile.new } } ≡ walk_timed problem.now (record { table = table.entry.now; path = path.old; profile = profile.old }) number ⌝ }
+    ensures { record { result = result; lent = record { table = table.new; path = path.new; profile = profile.new } } ≡ walk_timed problem.now (record { table = table.old; path = path.old; profile = profile.old }) number }
 {
     let refusal = timed_set_up(problem, table, path, profile);
     if refusal != 0 {

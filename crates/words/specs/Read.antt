@@ -1,7 +1,7 @@
 -- What a read of a lent word asks and gives, and what the writes leave.
-use Rattle.std.specs.Prelude.{List, ◌≡◌, ℕ, suc, ◌+◌, ◌<◌, T, ℤ, pos, negsuc, neg_ℤ, ◌-ℤ◌, get_or}
+use Rattle.std.specs.Prelude.{List, ◌≡◌, ℕ, suc, ◌+◌, ◌<◌, T, ℤ, pos, negsuc, ◌-ℤ◌, get_or}
 use Rattle.std.proofs.Common.{ap, ◌∙◌}
-use Rattle.std.proofs.Math.IntN.{-ℤ_one}
+use Rattle.std.proofs.Math.IntN.{neg_ℤ, -ℤ_one}
 use Rattle.std.specs.Int.Signed.{non_neg}
 use Rattle.rules.specs.Links.{link}
 use Rattle.rules.specs.Words.{word, quad}

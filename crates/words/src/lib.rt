@@ -1,4 +1,6 @@
 // The functions that touch a signed word. The code above this crate sees natural numbers and tests.
+#![tactic(auto)]
+
 ghost use Rattle.std.specs.Prelude.{◌≡◌, not, ◌+◌, ◌<◌, ◌≤◌, T, pos, negsuc, length, set};
 ghost use Rattle.std.proofs.Math.IntN.{suc_ℤ};
 ghost use Rattle.std.proofs.lemmas.List.Edits.{sets};
