@@ -25,7 +25,7 @@ use Rattle.laws.specs.Lists.{flat_append, cannot}
 use Rattle.laws.specs.Order.{pick_sound}
 use Rattle.laws.specs.Reached.{in_order_length}
 use Rattle.knuth.specs.Trace.{Trace, ◌then◌, to_come, remains, found_by, made_by}
-use Rattle.knuth.specs.Walks.{resume_tells}
+use Rattle.knuth.proofs.Walks.{resume_tells}
 use Rattle.knuth.specs.Adds.{resume_spends}
 use Rattle.words.specs.Read.{Natural}
 use Rattle.search.specs.Points.{On, Profile, Ran}

@@ -25,7 +25,7 @@ use Rattle.problem.specs.Measured.{table_bounds}
 use Rattle.problem.specs.Room.{Accepted}
 use Rattle.knuth.specs.Bounded.{few_visits}
 use Rattle.knuth.specs.Trace.{to_come, rest, whole}
-use Rattle.knuth.specs.Walks.{whole_found}
+use Rattle.knuth.proofs.Walks.{whole_found}
 use Rattle.search.specs.Meant.{top_on, top_profile}
 use Rattle.cover.specs.declared.page.Page.{Page}
 use Rattle.cover.specs.declared.page.Page.TheVariants.{All, More}

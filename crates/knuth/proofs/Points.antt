@@ -22,7 +22,7 @@ use Rattle.laws.specs.Lists.{and_left, and_both}
 use Rattle.laws.specs.Reached.{Reached, root, level, when_some, in_order_length, in_table_some}
 use Rattle.knuth.specs.Lists.{each_replicate, when_true}
 use Rattle.knuth.specs.Nodes.{choices_nodes, level_back}
-use Rattle.knuth.specs.Ends.{Fits}
+use Rattle.knuth.proofs.Ends.{Fits}
 
 -- ---- words
 

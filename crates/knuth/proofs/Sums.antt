@@ -18,10 +18,10 @@ use Rattle.knuth.specs.Counts.{capped_twice}
 use Rattle.knuth.specs.Twice.{table_twice, path_twice, counted_twice}
 use Rattle.knuth.specs.Trace.{go_on_from}
 use Rattle.knuth.specs.Adds.{resume_adds}
-use Rattle.knuth.specs.Ends.{reached_deep, Ends, resume_ends}
+use Rattle.knuth.proofs.Ends.{reached_deep, Ends, resume_ends}
 use Rattle.laws.specs.Reached.{joined}
 use Rattle.knuth.specs.Series.{problem, with_visits, then_call_from, then_call}
-use Rattle.knuth.specs.Stands.{Stands, accepted→, next_walked, next_stands, walk_of, walk_ended}
+use Rattle.knuth.proofs.Stands.{Stands, accepted→, next_walked, next_stands, walk_of, walk_ended}
 
 answer_visits : (e : End) (st : State) (n k : ℕ) → with_visits n (next_answer e st k) ≡ next_answer e st (n + k)
 answer_visits solution st n k = ap (NextSays.Solution st) (omega arith)

@@ -27,11 +27,11 @@ use Rattle.knuth.specs.Lists.{is_true, over_length, take_over, over_same}
 use Rattle.knuth.specs.Counts.{within, capped_twice, capped_none, profile_none}
 use Rattle.knuth.specs.Twice.{table_twice, path_twice, counted_twice}
 use Rattle.knuth.specs.Trace.{Trace, nothing, ◌then◌, to_come, remains, found_by, made_by}
-use Rattle.knuth.specs.Walks.{nothing_then, then_assoc, resume_tells}
+use Rattle.knuth.proofs.Walks.{nothing_then, then_assoc, resume_tells}
 use Rattle.knuth.specs.Adds.{resume_spends}
-use Rattle.knuth.specs.Ends.{reached_deep}
+use Rattle.knuth.proofs.Ends.{reached_deep}
 use Rattle.knuth.specs.Series.{problem, coming, Seen, before, after_answer, series, Over, Tells}
-use Rattle.knuth.specs.Stands.{Stands, stands_there, next_walked, next_stands, walk_of, walk_ended}
+use Rattle.knuth.proofs.Stands.{Stands, stands_there, next_walked, next_stands, walk_of, walk_ended}
 
 -- a search that is not done begins where it stands
 pub begun : (st : State) → st.phase ≢ Done → started st ≡ st

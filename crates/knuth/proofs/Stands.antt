@@ -29,8 +29,8 @@ use Rattle.laws.specs.Reached.{Reached, root, point_reached, in_order_length, pa
 use Rattle.laws.specs.Faults.{need_holds, first_none}
 use Rattle.tables.specs.Sizes.{fresh_size, table_size}
 use Rattle.knuth.specs.Lists.{is_true, over_length, over_room, take_over}
-use Rattle.knuth.specs.Ends.{Ends, Fits, resume_ends, reached_deep}
-use Rattle.knuth.specs.Points.{point_back}
+use Rattle.knuth.proofs.Ends.{Ends, Fits, resume_ends, reached_deep}
+use Rattle.knuth.proofs.Points.{point_back}
 use Rattle.knuth.specs.Series.{Accepted, stands_at, problem}
 use Rattle.knuth.specs.Counts.{within, capped_within, profile_length, profile_within}
 

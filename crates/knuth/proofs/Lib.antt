@@ -1,0 +1,15 @@
+pub mod Walks
+pub mod Ends
+pub mod Points
+pub mod Stands
+pub mod Sums
+pub mod Told
+pub mod Again
+pub mod Only
+pub mod Arrives
+pub mod Allowances
+pub mod Refused
+pub mod Joins
+pub mod DoorSays
+pub mod Theorems
+pub mod Conditions
