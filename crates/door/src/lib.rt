@@ -1,4 +1,4 @@
-// The host door: one exported function over bytes, with local tables of the size that its limits ask.
+// The host door: one function over bytes, which `door_c` exports, with local tables of the size that its limits ask.
 #![tactic(auto)]
 
 ghost use Rattle.std.specs.Prelude.{◌≡◌, [], ◌∷◌, map, ℕ, ◌+◌, ◌*◌, ◌<◌, ◌≤◌, length, take, drop};
@@ -196,8 +196,7 @@ fn answer(problem: &[i32], number: u64, allowance: u64, out: &mut [u8]) -> u32
 
 // Solution `number` of the problem, from 0: 0 with its depth and option numbers over the front of `out`, 20 where there is none, 21 where a
 // visit is due and the allowance for the whole call is spent, or the number of a refusal. Bytes are words of 32 bits, the lowest byte first.
-#[unsafe(no_mangle)]
-pub extern "C" fn host_door(problem: &[u8], number: u64, allowance: u64, out: &mut [u8]) -> u32
+pub fn host_door(problem: &[u8], number: u64, allowance: u64, out: &mut [u8]) -> u32
     ensures { record { result = result; out = out.new } ≡ door_call problem.now number allowance out.old }
 {
     if problem.len() % 4 != 0 {
