@@ -1,0 +1,22 @@
+use native.Mathlib.Omega.{arith}
+use Rattle.links.proofs.Words.{has_stand, down_inside, up_inside, can_lower, unlink_done}
+use borrow.Author.Rules.{rules}
+use Rattle.links.proofs.c.unlink_node.Goals as goal
+
+pub stand_of-s-requires : goal.stand_of-s-requires
+stand_of-s-requires c = has_stand c.requires.4.between
+
+pub put_down-requires : goal.put_down-requires
+put_down-requires c = record { q_in_bounds = down_inside c.requires.4.between c.Stand-of.ensures; x_bound = c.Stand-of.ensures.down_is.small }
+
+pub put_up-requires : goal.put_up-requires
+put_up-requires c = record { q_in_bounds = omega (arith, up_inside c.requires.4.between c.Stand-of.ensures, c.put_down.auto.t); x_bound = c.Stand-of.ensures.up_is.small }
+
+pub lower_len-requires : goal.lower_len-requires
+lower_len-requires c = -- CHECK split ['i_in_bounds', 'above']
+    can_lower c.requires.4.between c.Stand-of.ensures _ _ c.put_down.ensures c.put_up.ensures c.requires.4.count_is
+
+pub returns : goal.returns
+returns c = 
+    unlink_done c.requires.4.between c.Stand-of.ensures c.put_down.ensures
+    c.put_up.ensures c.lower_len.ensures
