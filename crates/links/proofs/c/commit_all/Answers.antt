@@ -11,10 +11,7 @@ use Rattle.links.proofs.Lap.{Right, right_start, right_long, right_test, right_b
 use Rattle.links.proofs.Committing.{commit_lap, commit_few_now, commit_at, commit_next, commit_all}
 use Rattle.links.proofs.c.commit_all.Goals as goal
 
-abbrev walk : (d : goal.At-loop-p) → Right (commit_lap d.requires.3) d.loop-p.t d.loop-p.p d.loop-p.updates
-walk d = d.loop-p.invariant _ _ _ d.requires.3
-
-onward : (d : goal.After-commit-updates) {P : Problem} {held : List Entry} {c : Choice}
+onward : (d : goal.After-t-1) {P : Problem} {held : List Entry} {c : Choice}
     (C : CanCommit P held d.args.n
     d.args.t.now c
     d.args.x)
@@ -32,11 +29,11 @@ pub loop-p-init : goal.loop-p-init
 loop-p-init c = λ P held c' C. right_start (commit_lap C)
 
 pub is_node-requires : goal.is_node-requires
-is_node-requires c = right_test (walk c.before)
+is_node-requires c = right_test (c.loop-p.invariant _ _ _ c.requires.3)
 
 pub top_of-j-requires : goal.top_of-j-requires
 top_of-j-requires c = 
-    right_has (walk c.before.before.before) c.loop-p-test.true (sym c.is_node.ensures ∙ c.if-is_node.true)
+    right_has (c.loop-p.invariant _ _ _ c.requires.3) c.loop-p-test.true (sym c.is_node.ensures ∙ c.if-is_node.true)
 
 pub commit-updates-requires : goal.commit-updates-requires
 commit-updates-requires c = 
@@ -44,31 +41,31 @@ commit-updates-requires c =
       _,
       _,
       _,
-      commit_at c.requires.3 (walk c.before.before.before.before.before) c.loop-p-test.true
+      commit_at c.requires.3 (c.loop-p.invariant _ _ _ c.requires.3) c.loop-p-test.true
           (sym c.is_node.ensures ∙ c.if-is_node.true) c.top_of-j.ensures,
     )
 
 pub overflow_add-updates : goal.overflow_add-updates
 overflow_add-updates c = 
-    omega (arith, commit_few_now c.requires.3 (onward c.before c.requires.3))
+    omega (arith, commit_few_now c.requires.3 (onward c c.requires.3))
 
 pub overflow_add-p-then-is_node : goal.overflow_add-p-then-is_node
-overflow_add-p-then-is_node c = omega (arith, right_below (walk c.before.before.before.before.before.before.before))
+overflow_add-p-then-is_node c = omega (arith, right_below (c.loop-p.invariant _ _ _ c.requires.3))
 
 pub loop-p-smaller-then-is_node : goal.loop-p-smaller-then-is_node
 loop-p-smaller-then-is_node c = 
-    right_near (walk c.before.before.before.before.before.before.before) c.loop-p-test.true
+    right_near (c.loop-p.invariant _ _ _ c.requires.3) c.loop-p-test.true
 
 pub loop-p-preserved-then-is_node : goal.loop-p-preserved-then-is_node
-loop-p-preserved-then-is_node c = λ P held c' C. onward c.before C
+loop-p-preserved-then-is_node c = λ P held c' C. onward c C
 
 pub up_of-p-requires : goal.up_of-p-requires
 up_of-p-requires c = 
-    right_turns (walk c.before.before.before) c.loop-p-test.true (sym c.is_node.ensures ∙ c.if-is_node.false)
+    right_turns (c.loop-p.invariant _ _ _ c.requires.3) c.loop-p-test.true (sym c.is_node.ensures ∙ c.if-is_node.false)
 
 pub loop-p-smaller : goal.loop-p-smaller
 loop-p-smaller c = 
-    right_turn_near (walk c.before.before.before.before) c.loop-p-test.true (sym c.is_node.ensures ∙ c.if-is_node.false)
+    right_turn_near (c.loop-p.invariant _ _ _ c.requires.3) c.loop-p-test.true (sym c.is_node.ensures ∙ c.if-is_node.false)
     c.up_of-p.ensures
 
 pub loop-p-preserved : goal.loop-p-preserved
@@ -77,7 +74,7 @@ loop-p-preserved c =
     (sym c.is_node.ensures ∙ c.if-is_node.false) c.up_of-p.ensures
 
 pub shape_of-t : goal.shape_of-t
-shape_of-t c = right_long (walk c.before)
+shape_of-t c = right_long (c.loop-p.invariant _ _ _ c.requires.3)
 
 pub returns : goal.returns
 returns c = λ P held c' C. commit_all C (right_end (c.loop-p.invariant P held c' C) c.loop-p-test.false)

@@ -11,9 +11,6 @@ use Rattle.links.proofs.Lap.{Right, right_start, right_long, right_test, right_b
 use Rattle.links.proofs.Hiding.{hide_lap, hide_few, hide_at, hide_next, hide_all}
 use Rattle.links.proofs.c.hide.Goals as goal
 
-abbrev walk : (d : goal.At-loop-q) → Right (hide_lap d.requires.4) d.loop-q.t d.loop-q.q d.loop-q.updates
-walk d = d.loop-q.invariant _ _ _ _ d.requires.4
-
 pub overflow_add-q : goal.overflow_add-q
 overflow_add-q c = omega (arith, right_below (right_start (hide_lap c.requires.4)))
 
@@ -21,22 +18,22 @@ pub loop-q-init : goal.loop-q-init
 loop-q-init c = λ P W held c' C. right_start (hide_lap C)
 
 pub is_node-requires : goal.is_node-requires
-is_node-requires c = right_test (walk c.before)
+is_node-requires c = right_test (c.loop-q.invariant _ _ _ _ c.requires.4)
 
 pub hide_node-updates-requires : goal.hide_node-updates-requires
 hide_node-updates-requires c = 
-    (_, _, _, hide_at c.requires.4 (walk c.before.before.before.before) c.loop-q-test.true (sym c.is_node.ensures ∙ c.if-is_node.true))
+    (_, _, _, hide_at c.requires.4 (c.loop-q.invariant _ _ _ _ c.requires.4) c.loop-q-test.true (sym c.is_node.ensures ∙ c.if-is_node.true))
 
 pub overflow_add-updates : goal.overflow_add-updates
 overflow_add-updates c = 
-    omega (arith, hide_few c.requires.4 (walk c.before.before.before.before.before.before), c.requires.4.table.size, c.hide_node-updates.ensures.upper_bound)
+    omega (arith, hide_few c.requires.4 (c.loop-q.invariant _ _ _ _ c.requires.4), c.requires.4.table.size, c.hide_node-updates.ensures.upper_bound)
 
 pub overflow_add-q-then-is_node : goal.overflow_add-q-then-is_node
-overflow_add-q-then-is_node c = omega (arith, right_below (walk c.before.before.before.before.before.before))
+overflow_add-q-then-is_node c = omega (arith, right_below (c.loop-q.invariant _ _ _ _ c.requires.4))
 
 pub loop-q-smaller-then-is_node : goal.loop-q-smaller-then-is_node
 loop-q-smaller-then-is_node c = 
-    right_near (walk c.before.before.before.before.before.before) c.loop-q-test.true
+    right_near (c.loop-q.invariant _ _ _ _ c.requires.4) c.loop-q-test.true
 
 pub loop-q-preserved-then-is_node : goal.loop-q-preserved-then-is_node
 loop-q-preserved-then-is_node c = 
@@ -47,11 +44,11 @@ loop-q-preserved-then-is_node c =
 
 pub up_of-q-requires : goal.up_of-q-requires
 up_of-q-requires c = 
-    right_turns (walk c.before.before.before) c.loop-q-test.true (sym c.is_node.ensures ∙ c.if-is_node.false)
+    right_turns (c.loop-q.invariant _ _ _ _ c.requires.4) c.loop-q-test.true (sym c.is_node.ensures ∙ c.if-is_node.false)
 
 pub loop-q-smaller : goal.loop-q-smaller
 loop-q-smaller c = 
-    right_turn_near (walk c.before.before.before.before) c.loop-q-test.true (sym c.is_node.ensures ∙ c.if-is_node.false)
+    right_turn_near (c.loop-q.invariant _ _ _ _ c.requires.4) c.loop-q-test.true (sym c.is_node.ensures ∙ c.if-is_node.false)
     c.up_of-q.ensures
 
 pub loop-q-preserved : goal.loop-q-preserved
@@ -60,7 +57,7 @@ loop-q-preserved c =
     (sym c.is_node.ensures ∙ c.if-is_node.false) c.up_of-q.ensures
 
 pub shape_of-t : goal.shape_of-t
-shape_of-t c = right_long (walk c.before)
+shape_of-t c = right_long (c.loop-q.invariant _ _ _ _ c.requires.4)
 
 pub returns : goal.returns
 returns c = λ P W held c' C. hide_all C (right_end (c.loop-q.invariant P W held c' C) c.loop-q-test.false)

@@ -30,4 +30,4 @@ number_of-requires c = let A = c.loop-q.invariant _ _ _ c.requires.3 in
 
 pub returns : goal.returns
 returns c = record { value = λ P held c' N. spacer_number c.args.t.now _
-      (along_spacer N (c.loop-q.invariant P held c' N) (sym c.has_top.ensures ∙ c.loop-q-test.false)) c.number_of_lem.ensures; upper_bound = c.number_of_lem.ensures.small }
+      (along_spacer N (c.loop-q.invariant P held c' N) (sym c.has_top.ensures ∙ c.loop-q-test.false)) c.number_of.ensures; upper_bound = c.number_of.ensures.small }

@@ -9,21 +9,14 @@ use Rattle.links.proofs.Words.{has_entry, read_colour, read_header}
 use Rattle.links.proofs.Touching.{meet, Touching, has_length, has_first, touching_start, touching_long, met_now, touching_some, touching_node, has_next, touching_next, sum_few, purified}
 use Rattle.links.proofs.c.purify.Goals as goal
 
-abbrev Known : goal.Start invariant-loop decreases-loop → Problem → List Entry → Entry → Type 0
-Known s P held e = CanPurify P held s.args.n s.args.t.now e s.args.p
-
-i_is : (d : goal.After-top_of-i) {P : Problem} {held : List Entry} {e : Entry} → Known d.before.before.before.before P held e
-    → d.top_of-i.result ≡ suc e.item
-i_is d C = read_header C.touch.n_is C.says d.top_of-i.ensures
-
-did : (d : goal.After-purify_node-updates) {P : Problem} {held : List Entry} {e : Entry}
-    (C : Known d.before.before.before.before.before.before.before.before.before.before.before.before P held e)
+did : (d : goal.After-t-1) {P : Problem} {held : List Entry} {e : Entry}
+    (C : CanPurify P held d.args.n d.args.t.now e d.args.p)
     → Done (items P) d.loop-q.t (meet P held e
-    (met_now C.touch (d.loop-q.invariant P held e C) (i_is d.before.before.before.before.before.before.before.before C)
+    (met_now C.touch (d.loop-q.invariant P held e C) (read_header C.touch.n_is C.says d.top_of-i.ensures)
     d.loop-q-test.true).0) d.purify_node-updates.new.t d.purify_node-updates.result
 did d {P} {held} {e} C =
     d.purify_node-updates.ensures P _ held e _ (record {
-      can = touching_node C.touch (d.loop-q.invariant P held e C) (i_is d.before.before.before.before.before.before.before.before C) d.loop-q-test.true;
+      can = touching_node C.touch (d.loop-q.invariant P held e C) (read_header C.touch.n_is C.says d.top_of-i.ensures) d.loop-q-test.true;
       colour_is = read_colour C.touch.n_is C.says d.colour_of-c.ensures;
       coloured = C.coloured;
     })
@@ -35,13 +28,13 @@ pub top_of-i-requires : goal.top_of-i-requires
 top_of-i-requires c = (has_entry c.requires.3.touch.n_is c.requires.3.says c.requires.3.touch.shown.shows.size).1
 
 pub top_of-left-requires : goal.top_of-left-requires
-top_of-left-requires c = has_length c.requires.3.touch (i_is c c.requires.3)
+top_of-left-requires c = has_length c.requires.3.touch (read_header c.requires.3.touch.n_is c.requires.3.says c.top_of-i.ensures)
 
 pub down_of-q-requires : goal.down_of-q-requires
-down_of-q-requires c = has_first c.requires.3.touch (i_is c.before c.requires.3)
+down_of-q-requires c = has_first c.requires.3.touch (read_header c.requires.3.touch.n_is c.requires.3.says c.top_of-i.ensures)
 
 pub loop-q-init : goal.loop-q-init
-loop-q-init c = λ P held e C. touching_start C.touch (i_is c.before.before C) c.top_of-left.ensures c.down_of-q.ensures
+loop-q-init c = λ P held e C. touching_start C.touch (read_header C.touch.n_is C.says c.top_of-i.ensures) c.top_of-left.ensures c.down_of-q.ensures
 
 pub purify_node-updates-requires : goal.purify_node-updates-requires
 purify_node-updates-requires c = record { some_meeting = (
@@ -51,7 +44,7 @@ purify_node-updates-requires c = record { some_meeting = (
         c.requires.2,
         _,
         record {
-          can = touching_node c.requires.3.touch (c.loop-q.invariant _ _ _ c.requires.3) (i_is c.before.before.before.before.before c.requires.3)
+          can = touching_node c.requires.3.touch (c.loop-q.invariant _ _ _ c.requires.3) (read_header c.requires.3.touch.n_is c.requires.3.says c.top_of-i.ensures)
               c.loop-q-test.true;
           colour_is = read_colour c.requires.3.touch.n_is c.requires.3.says c.colour_of-c.ensures;
           coloured = c.requires.3.coloured;
@@ -62,34 +55,34 @@ pub overflow_add-updates : goal.overflow_add-updates
 overflow_add-updates c = 
     omega (
       arith,
-      sum_few c.requires.3.touch (c.loop-q.invariant _ _ _ c.requires.3) (i_is c.before.before.before.before.before.before.before c.requires.3) c.loop-q-test.true
-          (did c.before c.requires.3),
+      sum_few c.requires.3.touch (c.loop-q.invariant _ _ _ c.requires.3) (read_header c.requires.3.touch.n_is c.requires.3.says c.top_of-i.ensures) c.loop-q-test.true
+          (did c c.requires.3),
       c.requires.3.touch.shown.small,
     )
 
 pub down_of-q-requires-in-loop-q : goal.down_of-q-requires-in-loop-q
 down_of-q-requires-in-loop-q c = 
-    has_next c.requires.3.touch (c.loop-q.invariant _ _ _ c.requires.3) (i_is c.before.before.before.before.before.before.before c.requires.3) c.loop-q-test.true
-    (did c.before c.requires.3)
+    has_next c.requires.3.touch (c.loop-q.invariant _ _ _ c.requires.3) (read_header c.requires.3.touch.n_is c.requires.3.says c.top_of-i.ensures) c.loop-q-test.true
+    (did c c.requires.3)
 
 pub overflow_sub-left : goal.overflow_sub-left
 overflow_sub-left c = 
-    omega (arith, touching_some c.requires.3.touch (c.loop-q.invariant _ _ _ c.requires.3) (i_is c.before.before.before.before.before.before.before.before c.requires.3) c.loop-q-test.true)
+    omega (arith, touching_some c.requires.3.touch (c.loop-q.invariant _ _ _ c.requires.3) (read_header c.requires.3.touch.n_is c.requires.3.says c.top_of-i.ensures) c.loop-q-test.true)
 
 pub loop-q-smaller : goal.loop-q-smaller
 loop-q-smaller c = 
-    omega (arith, touching_some c.requires.3.touch (c.loop-q.invariant _ _ _ c.requires.3) (i_is c.before.before.before.before.before.before.before.before c.requires.3) c.loop-q-test.true)
+    omega (arith, touching_some c.requires.3.touch (c.loop-q.invariant _ _ _ c.requires.3) (read_header c.requires.3.touch.n_is c.requires.3.says c.top_of-i.ensures) c.loop-q-test.true)
 
 pub loop-q-preserved : goal.loop-q-preserved
 loop-q-preserved c = 
     λ P held e C.
-    touching_next C.touch (c.loop-q.invariant P held e C) (i_is c.before.before.before.before.before.before.before.before C) c.loop-q-test.true
-    (did c.before.before C) c.down_of-q-in-loop-q.ensures
+    touching_next C.touch (c.loop-q.invariant P held e C) (read_header C.touch.n_is C.says c.top_of-i.ensures) c.loop-q-test.true
+    (did c.before C) c.down_of-q-in-loop-q.ensures
 
 pub shape_of-t : goal.shape_of-t
 shape_of-t c = 
     touching_long c.requires.3.touch (c.loop-q.invariant _ _ _ c.requires.3)
 
 pub returns : goal.returns
-returns c = λ P held e C. purified C.touch (c.loop-q.invariant P held e C) (i_is c.before.before.before.before C) c.loop-q-test.false
+returns c = λ P held e C. purified C.touch (c.loop-q.invariant P held e C) (read_header C.touch.n_is C.says c.top_of-i.ensures) c.loop-q-test.false
     C.coloured

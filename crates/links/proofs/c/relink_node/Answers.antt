@@ -7,17 +7,20 @@ pub stand_of-s-requires : goal.stand_of-s-requires
 stand_of-s-requires c = has_stand c.requires.4.between
 
 pub put_down-requires : goal.put_down-requires
-put_down-requires c = record { q_in_bounds = down_inside c.requires.4.between c.Stand-of.ensures; x_bound = node_small c.requires.4 }
+put_down-requires c = record { q_in_bounds = down_inside c.requires.4.between c.stand_of-s.ensures; x_bound = node_small c.requires.4 }
 
 pub put_up-requires : goal.put_up-requires
-put_up-requires c = record { q_in_bounds = omega (arith, up_inside c.requires.4.between c.Stand-of.ensures, c.put_down.auto.t); x_bound = node_small c.requires.4 }
+put_up-requires c = record { q_in_bounds = omega (arith, up_inside c.requires.4.between c.stand_of-s.ensures, c.put_down.auto.t); x_bound = node_small c.requires.4 }
 
 pub raise_len-requires : goal.raise_len-requires
-raise_len-requires c = -- CHECK split ['i_in_bounds', 'can_rise']
-    can_raise c.requires.4.between c.Stand-of.ensures _ _ c.put_down.ensures c.put_up.ensures c.requires.4.count_is
-    c.requires.4.room
+raise_len-requires c =
+    let p =
+        can_raise c.requires.4.between c.stand_of-s.ensures _ _ c.put_down.ensures c.put_up.ensures c.requires.4.count_is
+        c.requires.4.room
+    in
+    record { i_in_bounds = p.0; can_rise = p.1 }
 
 pub returns : goal.returns
 returns c = 
-    relink_done c.requires.4.between c.Stand-of.ensures c.put_down.ensures
+    relink_done c.requires.4.between c.stand_of-s.ensures c.put_down.ensures
     c.put_up.ensures c.raise_len.ensures

@@ -11,12 +11,6 @@ use Rattle.links.proofs.Lap.{Left, left_some, left_start, left_long, left_test, 
 use Rattle.links.proofs.Committing.{commit_lap, uncommit_words, uncommit_at}
 use Rattle.links.proofs.c.uncommit_all.Goals as goal
 
-abbrev walk : (d : goal.At-loop-p) → Left (commit_lap d.requires.4.can) d.loop-p.t d.loop-p.p
-walk d = d.loop-p.invariant _ _ _ _ d.requires.4
-
-long : (d : goal.At-loop-p) → length d.loop-p.t ≡ length d.args.t.now
-long d = left_long (walk d) (uncommit_words d.requires.4)
-
 pub overflow_sub-p : goal.overflow_sub-p
 overflow_sub-p c = omega (arith, left_some (commit_lap c.requires.4.can))
 
@@ -24,11 +18,11 @@ pub loop-p-init : goal.loop-p-init
 loop-p-init c = λ P held t₁ c' Q. left_start (commit_lap Q.can) (uncommit_words Q)
 
 pub is_node-requires : goal.is_node-requires
-is_node-requires c = left_test (walk c.before)
+is_node-requires c = left_test (c.loop-p.invariant _ _ _ _ c.requires.4)
 
 pub top_of-j-requires : goal.top_of-j-requires
 top_of-j-requires c = 
-    left_has (walk c.before.before.before) c.loop-p-test.true (sym c.is_node.ensures ∙ c.if-is_node.true)
+    left_has (c.loop-p.invariant _ _ _ _ c.requires.4) c.loop-p-test.true (sym c.is_node.ensures ∙ c.if-is_node.true)
 
 pub uncommit-requires : goal.uncommit-requires
 uncommit-requires c = 
@@ -37,7 +31,7 @@ uncommit-requires c =
       _,
       _,
       _,
-      uncommit_at c.requires.4 (walk c.before.before.before.before.before) c.loop-p-test.true
+      uncommit_at c.requires.4 (c.loop-p.invariant _ _ _ _ c.requires.4) c.loop-p-test.true
           (sym c.is_node.ensures ∙ c.if-is_node.true) c.top_of-j.ensures,
     )
 
@@ -45,13 +39,13 @@ pub overflow_sub-p-then-is_node : goal.overflow_sub-p-then-is_node
 overflow_sub-p-then-is_node c = 
     omega (
       arith,
-      left_more (walk c.before.before.before.before.before.before.before) c.loop-p-test.true
+      left_more (c.loop-p.invariant _ _ _ _ c.requires.4) c.loop-p-test.true
           (sym c.is_node.ensures ∙ c.if-is_node.true),
     )
 
 pub loop-p-smaller-then-is_node : goal.loop-p-smaller-then-is_node
 loop-p-smaller-then-is_node c = 
-    left_near (walk c.before.before.before.before.before.before.before) c.loop-p-test.true (sym
+    left_near (c.loop-p.invariant _ _ _ _ c.requires.4) c.loop-p-test.true (sym
     c.is_node.ensures ∙ c.if-is_node.true)
     (length c.args.t.now)
 
@@ -65,12 +59,12 @@ loop-p-preserved-then-is_node c =
 
 pub down_of-p-requires : goal.down_of-p-requires
 down_of-p-requires c = 
-    left_turns (walk c.before.before.before) c.loop-p-test.true (sym c.is_node.ensures ∙ c.if-is_node.false)
+    left_turns (c.loop-p.invariant _ _ _ _ c.requires.4) c.loop-p-test.true (sym c.is_node.ensures ∙ c.if-is_node.false)
 
 pub loop-p-smaller : goal.loop-p-smaller
 loop-p-smaller c = 
-    left_turn_near (walk c.before.before.before.before) c.loop-p-test.true (sym c.is_node.ensures ∙ c.if-is_node.false)
-    c.down_of-p.ensures (long c.before.before.before.before)
+    left_turn_near (c.loop-p.invariant _ _ _ _ c.requires.4) c.loop-p-test.true (sym c.is_node.ensures ∙ c.if-is_node.false)
+    c.down_of-p.ensures (left_long (c.loop-p.invariant _ _ _ _ c.requires.4) (uncommit_words c.requires.4))
 
 pub loop-p-preserved : goal.loop-p-preserved
 loop-p-preserved c = 
@@ -78,7 +72,7 @@ loop-p-preserved c =
     (sym c.is_node.ensures ∙ c.if-is_node.false) c.down_of-p.ensures
 
 pub shape_of-t : goal.shape_of-t
-shape_of-t c = long c.before
+shape_of-t c = left_long (c.loop-p.invariant _ _ _ _ c.requires.4) (uncommit_words c.requires.4)
 
 pub returns : goal.returns
 returns c = λ P held t₁ c' Q. left_end (c.loop-p.invariant P held t₁ c' Q) c.loop-p-test.false

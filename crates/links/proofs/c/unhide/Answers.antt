@@ -12,12 +12,6 @@ use Rattle.links.proofs.Lap.{Left, left_some, left_start, left_long, left_test, 
 use Rattle.links.proofs.Hiding.{hide_lap, unhide_words, unhide_at}
 use Rattle.links.proofs.c.unhide.Goals as goal
 
-abbrev walk : (d : goal.At-loop-q) → Left (hide_lap d.requires.5.can) d.loop-q.t d.loop-q.q
-walk d = d.loop-q.invariant _ _ _ _ _ d.requires.5
-
-long : (d : goal.At-loop-q) → length d.loop-q.t ≡ length d.args.t.now
-long d = left_long (walk d) (unhide_words d.requires.5)
-
 pub overflow_sub-q : goal.overflow_sub-q
 overflow_sub-q c = omega (arith, left_some (hide_lap c.requires.5.can))
 
@@ -25,7 +19,7 @@ pub loop-q-init : goal.loop-q-init
 loop-q-init c = λ P W t₁ held c' H. left_start (hide_lap H.can) (unhide_words H)
 
 pub is_node-requires : goal.is_node-requires
-is_node-requires c = left_test (walk c.before)
+is_node-requires c = left_test (c.loop-q.invariant _ _ _ _ _ c.requires.5)
 
 pub unhide_node-requires : goal.unhide_node-requires
 unhide_node-requires c = 
@@ -34,7 +28,7 @@ unhide_node-requires c =
       _,
       _,
       _,
-      unhide_at c.requires.5 (walk c.before.before.before.before) c.loop-q-test.true
+      unhide_at c.requires.5 (c.loop-q.invariant _ _ _ _ _ c.requires.5) c.loop-q-test.true
           (sym c.is_node.ensures ∙ c.if-is_node.true),
     )
 
@@ -42,13 +36,13 @@ pub overflow_sub-q-then-is_node : goal.overflow_sub-q-then-is_node
 overflow_sub-q-then-is_node c = 
     omega (
       arith,
-      left_more (walk c.before.before.before.before.before.before) c.loop-q-test.true
+      left_more (c.loop-q.invariant _ _ _ _ _ c.requires.5) c.loop-q-test.true
           (sym c.is_node.ensures ∙ c.if-is_node.true),
     )
 
 pub loop-q-smaller-then-is_node : goal.loop-q-smaller-then-is_node
 loop-q-smaller-then-is_node c = 
-    left_near (walk c.before.before.before.before.before.before) c.loop-q-test.true (sym c.is_node.ensures ∙ c.if-is_node.true)
+    left_near (c.loop-q.invariant _ _ _ _ _ c.requires.5) c.loop-q-test.true (sym c.is_node.ensures ∙ c.if-is_node.true)
     (length c.args.t.now)
 
 pub loop-q-preserved-then-is_node : goal.loop-q-preserved-then-is_node
@@ -60,12 +54,12 @@ loop-q-preserved-then-is_node c =
 
 pub down_of-q-requires : goal.down_of-q-requires
 down_of-q-requires c = 
-    left_turns (walk c.before.before.before) c.loop-q-test.true (sym c.is_node.ensures ∙ c.if-is_node.false)
+    left_turns (c.loop-q.invariant _ _ _ _ _ c.requires.5) c.loop-q-test.true (sym c.is_node.ensures ∙ c.if-is_node.false)
 
 pub loop-q-smaller : goal.loop-q-smaller
 loop-q-smaller c = 
-    left_turn_near (walk c.before.before.before.before) c.loop-q-test.true (sym c.is_node.ensures ∙ c.if-is_node.false)
-    c.down_of-q.ensures (long c.before.before.before.before)
+    left_turn_near (c.loop-q.invariant _ _ _ _ _ c.requires.5) c.loop-q-test.true (sym c.is_node.ensures ∙ c.if-is_node.false)
+    c.down_of-q.ensures (left_long (c.loop-q.invariant _ _ _ _ _ c.requires.5) (unhide_words c.requires.5))
 
 pub loop-q-preserved : goal.loop-q-preserved
 loop-q-preserved c = 
@@ -73,7 +67,7 @@ loop-q-preserved c =
     (sym c.is_node.ensures ∙ c.if-is_node.false) c.down_of-q.ensures
 
 pub shape_of-t : goal.shape_of-t
-shape_of-t c = long c.before
+shape_of-t c = left_long (c.loop-q.invariant _ _ _ _ _ c.requires.5) (unhide_words c.requires.5)
 
 pub returns : goal.returns
 returns c = λ P W t₁ held c' H. left_end (c.loop-q.invariant P W t₁ held c' H) c.loop-q-test.false

@@ -7,16 +7,17 @@ pub stand_of-s-requires : goal.stand_of-s-requires
 stand_of-s-requires c = has_stand c.requires.4.between
 
 pub put_down-requires : goal.put_down-requires
-put_down-requires c = record { q_in_bounds = down_inside c.requires.4.between c.Stand-of.ensures; x_bound = c.Stand-of.ensures.down_is.small }
+put_down-requires c = record { q_in_bounds = down_inside c.requires.4.between c.stand_of-s.ensures; x_bound = c.stand_of-s.ensures.down_is.small }
 
 pub put_up-requires : goal.put_up-requires
-put_up-requires c = record { q_in_bounds = omega (arith, up_inside c.requires.4.between c.Stand-of.ensures, c.put_down.auto.t); x_bound = c.Stand-of.ensures.up_is.small }
+put_up-requires c = record { q_in_bounds = omega (arith, up_inside c.requires.4.between c.stand_of-s.ensures, c.put_down.auto.t); x_bound = c.stand_of-s.ensures.up_is.small }
 
 pub lower_len-requires : goal.lower_len-requires
-lower_len-requires c = -- CHECK split ['i_in_bounds', 'above']
-    can_lower c.requires.4.between c.Stand-of.ensures _ _ c.put_down.ensures c.put_up.ensures c.requires.4.count_is
+lower_len-requires c =
+    let p = can_lower c.requires.4.between c.stand_of-s.ensures _ _ c.put_down.ensures c.put_up.ensures c.requires.4.count_is in
+    record { i_in_bounds = p.0; above = p.1 }
 
 pub returns : goal.returns
 returns c = 
-    unlink_done c.requires.4.between c.Stand-of.ensures c.put_down.ensures
+    unlink_done c.requires.4.between c.stand_of-s.ensures c.put_down.ensures
     c.put_up.ensures c.lower_len.ensures

@@ -9,7 +9,7 @@ use Rattle.links.proofs.Touching.{meet, Touching, touching_few, has_length, has_
 use Rattle.links.proofs.Covering.{can_touch, hide_meets, can_leave, covered}
 use Rattle.links.proofs.x.cover.Goals as goal
 
-hid : (d : goal.After-hide-updates) {P : Problem} {held : List Entry} {j : ℕ}
+hid : (d : goal.After-t-1) {P : Problem} {held : List Entry} {j : ℕ}
     (C : CanCover P held d.args.n
     d.args.t.now j d.args.i)
     → Done (items P) d.loop-p.t (meet P held (bare j)
@@ -34,11 +34,11 @@ hide-updates-requires c =
 
 pub overflow_add-updates : goal.overflow_add-updates
 overflow_add-updates c = 
-    omega (arith, sum_few (can_touch c.requires.3) (c.loop-p.invariant _ _ _ c.requires.3) c.requires.3.header.is c.loop-p-test.true (hid c.before c.requires.3), c.requires.3.header.shown.small)
+    omega (arith, sum_few (can_touch c.requires.3) (c.loop-p.invariant _ _ _ c.requires.3) c.requires.3.header.is c.loop-p-test.true (hid c c.requires.3), c.requires.3.header.shown.small)
 
 pub down_of-p-requires-in-loop-p : goal.down_of-p-requires-in-loop-p
 down_of-p-requires-in-loop-p c = 
-    has_next (can_touch c.requires.3) (c.loop-p.invariant _ _ _ c.requires.3) c.requires.3.header.is c.loop-p-test.true (hid c.before c.requires.3)
+    has_next (can_touch c.requires.3) (c.loop-p.invariant _ _ _ c.requires.3) c.requires.3.header.is c.loop-p-test.true (hid c c.requires.3)
 
 pub overflow_sub-left : goal.overflow_sub-left
 overflow_sub-left c = 
@@ -51,7 +51,7 @@ loop-p-smaller c =
 pub loop-p-preserved : goal.loop-p-preserved
 loop-p-preserved c = 
     λ P held j C.
-    touching_next (can_touch C) (c.loop-p.invariant P held j C) C.header.is c.loop-p-test.true (hid c.before.before C) c.down_of-p-in-loop-p.ensures
+    touching_next (can_touch C) (c.loop-p.invariant P held j C) C.header.is c.loop-p-test.true (hid c.before C) c.down_of-p-in-loop-p.ensures
 
 pub unlink_item-requires : goal.unlink_item-requires
 unlink_item-requires c = 

@@ -11,25 +11,15 @@ use Rattle.links.proofs.Untouching.{Untouching, end_size, still_length, has_last
 use Rattle.links.proofs.Covering.{can_touch, bare_hidden, can_return, returned}
 use Rattle.links.proofs.x.uncover.Goals as goal
 
-abbrev Known : goal.Start invariant-loop decreases-loop → Problem → List Entry → List ℤ → ℕ → Type 0
-Known s P held t₁ j = Covered P held s.args.n t₁ s.args.t.now j s.args.i
+now_is : {P : Problem} {held : List Entry} {n : ℕ} {t₁ t : List ℤ} {j i : ℕ} → Covered P held n t₁ t j i
+    → t ≡ run_events (items P) t₁ (touch P held (bare j))
+now_is {P} {held} {n} {t₁} {t} {j} {i} Q = Q.is ∙ ap (λ (k : ℕ). run_events k t₁ (touch P held (bare j))) Q.can.header.n_is
 
-now_is : (d : goal.Start) {P : Problem} {held : List Entry} {t₁ : List ℤ} {j : ℕ} → Known d P held t₁ j
-    → d.args.t.now ≡ run_events (items P) t₁ (touch P held (bare j))
-now_is d {P} {held} {t₁} {j} Q = Q.is ∙ ap (λ (k : ℕ). run_events k t₁ (touch P held (bare j))) Q.can.header.n_is
+back : (d : goal.After-t-1) {P : Problem} {held : List Entry} {t₁ : List ℤ} {j : ℕ}
+    → Covered P held d.args.n t₁ d.args.t.now j d.args.i → d.relink_item.new.t ≡ run_events (items P) t₁ (met_all P held (bare j) (linked P held j))
+back d {P} {held} {t₁} {j} Q = returned (can_touch Q.can) refl refl (now_is Q) (d.relink_item.ensures (items P) j Q.can.header.is)
 
-back : (d : goal.After-relink_item) {P : Problem} {held : List Entry} {t₁ : List ℤ} {j : ℕ}
-    → Known d.before.before P held t₁ j → d.relink_item.new.t ≡ run_events (items P) t₁ (met_all P held (bare j) (linked P held j))
-back d {P} {held} {t₁} {j} Q = returned (can_touch Q.can) refl refl (now_is d.before.before Q) (d.relink_item.ensures (items P) j Q.can.header.is)
-
-abbrev walk : (d : goal.At-loop-p) → Untouching d.requires.0
-    d.requires.1 (bare d.requires.3)
-    d.requires.2 d.loop-p.t d.loop-p.left d.loop-p.p
-walk d =
-    d.loop-p.invariant _ _ _ _ d.requires.4.can
-    (back d.before.before.before.before.before.before d.requires.4)
-
-unhid : (d : goal.After-unhide) {P : Problem} {held : List Entry} {t₁ : List ℤ} {j : ℕ}
+unhid : (d : goal.After-t-in-loop-p-1) {P : Problem} {held : List Entry} {t₁ : List ℤ} {j : ℕ}
     (C : CanCover P held d.args.n t₁ j
     d.args.i)
     (w : d.relink_item.new.t ≡ run_events (items P) t₁
@@ -39,46 +29,46 @@ unhid d {P} {held} {t₁} {j} C w =
     d.unhide.ensures P _ _ held _ (bare_hidden (untouching_node (can_touch C) (d.loop-p.invariant P held t₁ j C w) C.header.is d.loop-p-test.true))
 
 pub relink_item-requires : goal.relink_item-requires
-relink_item-requires c = (_, _, _, _, can_return (can_touch c.requires.4.can) refl refl (now_is c.before c.requires.4) c.requires.4.can.header.is)
+relink_item-requires c = (_, _, _, _, can_return (can_touch c.requires.4.can) refl refl (now_is c.requires.4) c.requires.4.can.header.is)
 
 pub top_of-left-requires : goal.top_of-left-requires
-top_of-left-requires c = still_length (can_touch c.requires.4.can) (back c.before c.requires.4) c.requires.4.can.header.is
+top_of-left-requires c = still_length (can_touch c.requires.4.can) (back c c.requires.4) c.requires.4.can.header.is
 
 pub up_of-p-requires : goal.up_of-p-requires
 up_of-p-requires c = 
-    has_last (can_touch c.requires.4.can) (back c.before.before c.requires.4) c.requires.4.can.header.is
+    has_last (can_touch c.requires.4.can) (back c.before c.requires.4) c.requires.4.can.header.is
 
 pub loop-p-init : goal.loop-p-init
 loop-p-init c = λ P held t₁ j C w. untouching_start (can_touch C) w C.header.is c.top_of-left.ensures c.up_of-p.ensures
 
 pub unhide-requires : goal.unhide-requires
 unhide-requires c = 
-    (_, _, _, _, _, bare_hidden (untouching_node (can_touch c.requires.4.can) (walk c.before.before) c.requires.4.can.header.is c.loop-p-test.true))
+    (_, _, _, _, _, bare_hidden (untouching_node (can_touch c.requires.4.can) (c.loop-p.invariant _ _ _ _ c.requires.4.can (back c.before.before.before.before.before c.requires.4)) c.requires.4.can.header.is c.loop-p-test.true))
 
 pub up_of-p-requires-in-loop-p : goal.up_of-p-requires-in-loop-p
 up_of-p-requires-in-loop-p c = 
-    has_previous (can_touch c.requires.4.can) (walk c.before.before.before.before) c.requires.4.can.header.is c.loop-p-test.true
-    (unhid c.before c.requires.4.can (back c.before.before.before.before.before.before.before.before c.requires.4))
+    has_previous (can_touch c.requires.4.can) (c.loop-p.invariant _ _ _ _ c.requires.4.can (back c.before.before.before.before.before.before.before c.requires.4)) c.requires.4.can.header.is c.loop-p-test.true
+    (unhid c c.requires.4.can (back c.before.before.before.before.before.before.before c.requires.4))
 
 pub overflow_sub-left : goal.overflow_sub-left
 overflow_sub-left c = 
-    omega (arith, untouching_some (can_touch c.requires.4.can) (walk c.before.before.before.before.before) c.requires.4.can.header.is c.loop-p-test.true)
+    omega (arith, untouching_some (can_touch c.requires.4.can) (c.loop-p.invariant _ _ _ _ c.requires.4.can (back c.before.before.before.before.before.before.before.before c.requires.4)) c.requires.4.can.header.is c.loop-p-test.true)
 
 pub loop-p-smaller : goal.loop-p-smaller
 loop-p-smaller c = 
-    omega (arith, untouching_some (can_touch c.requires.4.can) (walk c.before.before.before.before.before) c.requires.4.can.header.is c.loop-p-test.true)
+    omega (arith, untouching_some (can_touch c.requires.4.can) (c.loop-p.invariant _ _ _ _ c.requires.4.can (back c.before.before.before.before.before.before.before.before c.requires.4)) c.requires.4.can.header.is c.loop-p-test.true)
 
 pub loop-p-preserved : goal.loop-p-preserved
 loop-p-preserved c = 
     λ P held t₁ j C w.
-    untouching_next (can_touch C) (c.loop-p.invariant P held t₁ j C w) C.header.is c.loop-p-test.true (unhid c.before.before C w)
+    untouching_next (can_touch C) (c.loop-p.invariant P held t₁ j C w) C.header.is c.loop-p-test.true (unhid c.before C w)
     c.up_of-p-in-loop-p.ensures
 
 pub shape_of-t : goal.shape_of-t
 shape_of-t c = 
-    untouching_size (can_touch c.requires.4.can) (walk c.before) ∙ sym
-    (end_size (can_touch c.requires.4.can) (back c.before.before.before.before.before c.requires.4)) ∙ c.relink_item.auto.t
+    untouching_size (can_touch c.requires.4.can) (c.loop-p.invariant _ _ _ _ c.requires.4.can (back c.before.before.before.before c.requires.4)) ∙ sym
+    (end_size (can_touch c.requires.4.can) (back c.before.before.before.before c.requires.4)) ∙ c.relink_item.auto.t
 
 pub returns : goal.returns
 returns c = λ P held t₁ j Q. untouching_end (can_touch Q.can)
-    (c.loop-p.invariant P held t₁ j Q.can (back c.before.before.before.before.before Q)) Q.can.header.is c.loop-p-test.false
+    (c.loop-p.invariant P held t₁ j Q.can (back c.before.before.before.before Q)) Q.can.header.is c.loop-p-test.false
