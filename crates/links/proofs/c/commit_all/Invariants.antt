@@ -1,14 +1,14 @@
-use mathlib.Core.Path.{sym, ◌∙◌}
+-- `links::c::commit_all` meets its contract. The loop's invariant: the nodes met are committed, and the walk is at the
+-- first of the others or at the spacer before it. The measure is what is left of the way round the option. Assumes
+-- nothing.
 use mathlib.Core.List.{List}
-use Prim.Native.Nat.{◌+◌}
-use native.Mathlib.Omega.{arith}
 use lib.ListN.{length}
 use Rattle.rules.specs.Problem.{Entry, Problem}
 use Rattle.rules.specs.Order.{Choice}
 use Rattle.links.specs.Moves.{CanCommit}
 use Rattle.links.proofs.Round.{way_right}
-use Rattle.links.proofs.Lap.{Right, right_start, right_long, right_test, right_below, right_near, right_has, right_turns, right_turn, right_turn_near, right_end}
-use Rattle.links.proofs.Committing.{commit_lap, commit_few_now, commit_at, commit_next, commit_all}
+use Rattle.links.proofs.Lap.{Right}
+use Rattle.links.proofs.Committing.{commit_lap}
 use Rattle.links.proofs.c.commit_all.Given as goal
 
 abbrev pub invariant-loop-p : goal.invariant-loop-p

@@ -1,3 +1,4 @@
+-- `links::c::dlink` meets its contract: the down link of a member of the list is the following member. Assumes nothing.
 use native.Mathlib.Omega.{arith}
 use Rattle.links.proofs.Words.{has_link, read}
 use Rattle.links.proofs.Found.{list_size, list_inside, list_word}

@@ -1,14 +1,15 @@
-use mathlib.Core.Path.{sym, ◌∙◌}
+-- `links::c::hide` meets its contract. The loop's invariant: the nodes met have left their lists, unless they are
+-- marked, and the walk is at the first of the others or at the spacer before it. The measure is what is left of the way
+-- round the option. Assumes nothing.
 use mathlib.Core.List.{List}
-use native.Mathlib.Omega.{arith}
 use lib.ListN.{length}
 use Rattle.rules.specs.Problem.{Entry, Problem}
 use Rattle.rules.specs.Order.{Choice}
 use Rattle.tables.specs.Views.{View}
 use Rattle.links.specs.Steps.{CanHide}
 use Rattle.links.proofs.Round.{way_right}
-use Rattle.links.proofs.Lap.{Right, right_start, right_long, right_test, right_below, right_near, right_turns, right_turn, right_turn_near, right_end}
-use Rattle.links.proofs.Hiding.{hide_lap, hide_few, hide_at, hide_next, hide_all}
+use Rattle.links.proofs.Lap.{Right}
+use Rattle.links.proofs.Hiding.{hide_lap}
 use Rattle.links.proofs.c.hide.Given as goal
 
 abbrev pub invariant-loop-q : goal.invariant-loop-q

@@ -1,3 +1,4 @@
+-- `links::c::len` meets its contract: the header holds the length of its list. Assumes nothing.
 use native.Mathlib.Omega.{arith}
 use Rattle.links.proofs.Words.{has_link, read}
 use Rattle.links.proofs.Found.{header_size, header_inside, header_word}

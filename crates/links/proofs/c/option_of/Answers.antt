@@ -1,12 +1,6 @@
 use mathlib.Core.Path.{sym, ◌∙◌}
-use mathlib.Core.List.{List}
-use Prim.Native.Nat.{◌-◌}
 use native.Mathlib.Omega.{arith}
-use lib.ListN.{length}
-use Rattle.rules.specs.Problem.{Entry, Problem}
-use Rattle.rules.specs.Order.{Choice}
-use Rattle.links.specs.Moves.{IsNode}
-use Rattle.links.proofs.Found.{Along, along_start, along_test, along_node, along_spacer, spacer_negative, spacer_number}
+use Rattle.links.proofs.Found.{along_start, along_test, along_node, along_spacer, spacer_negative, spacer_number}
 use Rattle.links.proofs.c.option_of.Goals as goal
 
 pub loop-q-init : goal.loop-q-init
@@ -29,5 +23,8 @@ number_of-requires c = let A = c.loop-q.invariant _ _ _ c.requires.3 in
     record { q_in_bounds = along_test c.requires.3 A; t = spacer_negative c.args.t.now _ (along_spacer c.requires.3 A (sym c.has_top.ensures ∙ c.loop-q-test.false)) }
 
 pub returns : goal.returns
-returns c = record { value = λ P held c' N. spacer_number c.args.t.now _
-      (along_spacer N (c.loop-q.invariant P held c' N) (sym c.has_top.ensures ∙ c.loop-q-test.false)) c.number_of.ensures; upper_bound = c.number_of.ensures.small }
+returns c = record {
+  value = λ P held c' N. spacer_number c.args.t.now _
+      (along_spacer N (c.loop-q.invariant P held c' N) (sym c.has_top.ensures ∙ c.loop-q-test.false)) c.number_of.ensures;
+  upper_bound = c.number_of.ensures.small;
+}

@@ -1,12 +1,12 @@
-use mathlib.Core.Path.{sym, ◌∙◌}
+-- `links::c::option_of` meets its contract: the walk goes along the nodes of the option up to the spacer after it.
+-- Assumes nothing.
 use mathlib.Core.List.{List}
 use Prim.Native.Nat.{◌-◌}
-use native.Mathlib.Omega.{arith}
 use lib.ListN.{length}
 use Rattle.rules.specs.Problem.{Entry, Problem}
 use Rattle.rules.specs.Order.{Choice}
 use Rattle.links.specs.Moves.{IsNode}
-use Rattle.links.proofs.Found.{Along, along_start, along_test, along_node, along_spacer, spacer_negative, spacer_number}
+use Rattle.links.proofs.Found.{Along}
 use Rattle.links.proofs.c.option_of.Given as goal
 
 abbrev pub invariant-loop-q : goal.invariant-loop-q

@@ -1,12 +1,10 @@
-use mathlib.Core.Path.{◌≡◌}
+-- `links::c::purify` meets its contract. The loop's invariant is that of `cover`: the walk has met the first nodes of
+-- the list, the rest is as long as `left` says, and the updates are the price of what was done. The measure is `left`.
+-- Assumes nothing.
 use mathlib.Core.List.{List}
-use Prim.Native.Nat.{suc}
-use native.Mathlib.Omega.{arith}
-use Rattle.rules.specs.Problem.{Entry, Problem, items}
-use Rattle.links.specs.Moves.{Done}
+use Rattle.rules.specs.Problem.{Entry, Problem}
 use Rattle.links.specs.Steps.{CanPurify}
-use Rattle.links.proofs.Words.{has_entry, read_colour, read_header}
-use Rattle.links.proofs.Touching.{meet, Touching, has_length, has_first, touching_start, touching_long, met_now, touching_some, touching_node, has_next, touching_next, sum_few, purified}
+use Rattle.links.proofs.Touching.{Touching}
 use Rattle.links.proofs.c.purify.Given as goal
 
 abbrev pub invariant-loop-q : goal.invariant-loop-q

@@ -1,6 +1,7 @@
+-- `links::c::relink_node` meets its contract: the three words that it writes are those of the event undone. Assumes
+-- nothing.
 use native.Mathlib.Omega.{arith}
 use Rattle.links.proofs.Words.{has_stand, down_inside, up_inside, can_raise, relink_done, node_small}
-use borrow.Author.Rules.{rules}
 use Rattle.links.proofs.c.relink_node.Goals as goal
 
 pub stand_of-s-requires : goal.stand_of-s-requires
@@ -15,12 +16,12 @@ put_up-requires c = record { q_in_bounds = omega (arith, up_inside c.requires.4.
 pub raise_len-requires : goal.raise_len-requires
 raise_len-requires c =
     let p =
-        can_raise c.requires.4.between c.stand_of-s.ensures _ _ c.put_down.ensures c.put_up.ensures c.requires.4.count_is
-        c.requires.4.room
+    can_raise c.requires.4.between c.stand_of-s.ensures _ _ c.put_down.ensures c.put_up.ensures c.requires.4.count_is
+    c.requires.4.room
     in
     record { i_in_bounds = p.0; can_rise = p.1 }
 
 pub returns : goal.returns
-returns c = 
+returns c =
     relink_done c.requires.4.between c.stand_of-s.ensures c.put_down.ensures
     c.put_up.ensures c.raise_len.ensures

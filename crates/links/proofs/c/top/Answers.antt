@@ -1,3 +1,4 @@
+-- `links::c::top` meets its contract: a node names the header of its item. Assumes nothing.
 use native.Mathlib.Omega.{arith}
 use Rattle.links.proofs.Words.{has_link, read}
 use Rattle.links.proofs.Found.{node_size, node_inside, node_word}

@@ -1,14 +1,15 @@
-use mathlib.Core.Path.{◌≡◌, sym, ◌∙◌}
+-- `links::c::uncommit_all` meets its contract. The loop's invariant: the nodes still to be met are those that are
+-- committed, and the walk is at the last of them or at the spacer after it. The measure is what is left of the way
+-- round the option. Assumes nothing.
 use mathlib.Core.List.{List}
-use native.Mathlib.Omega.{arith}
 use lib.IntN.{ℤ}
 use lib.ListN.{length}
 use Rattle.rules.specs.Problem.{Entry, Problem}
 use Rattle.rules.specs.Order.{Choice}
 use Rattle.links.specs.Moves.{Committed}
 use Rattle.links.proofs.Round.{way_left}
-use Rattle.links.proofs.Lap.{Left, left_some, left_start, left_long, left_test, left_has, left_more, left_near, left_next, left_turns, left_turn, left_turn_near, left_end}
-use Rattle.links.proofs.Committing.{commit_lap, uncommit_words, uncommit_at}
+use Rattle.links.proofs.Lap.{Left}
+use Rattle.links.proofs.Committing.{commit_lap}
 use Rattle.links.proofs.c.uncommit_all.Given as goal
 
 abbrev pub invariant-loop-p : goal.invariant-loop-p

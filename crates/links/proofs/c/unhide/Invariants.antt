@@ -1,6 +1,7 @@
-use mathlib.Core.Path.{◌≡◌, sym, ◌∙◌}
+-- `links::c::unhide` meets its contract. The loop's invariant: the nodes still to be met are those that have left their
+-- lists, unless they are marked, and the walk is at the last of them or at the spacer after it. The measure is what is
+-- left of the way round the option. Assumes nothing.
 use mathlib.Core.List.{List}
-use native.Mathlib.Omega.{arith}
 use lib.IntN.{ℤ}
 use lib.ListN.{length}
 use Rattle.rules.specs.Problem.{Entry, Problem}
@@ -8,8 +9,8 @@ use Rattle.rules.specs.Order.{Choice}
 use Rattle.tables.specs.Views.{View}
 use Rattle.links.specs.Steps.{Hidden}
 use Rattle.links.proofs.Round.{way_left}
-use Rattle.links.proofs.Lap.{Left, left_some, left_start, left_long, left_test, left_more, left_near, left_next, left_turns, left_turn, left_turn_near, left_end}
-use Rattle.links.proofs.Hiding.{hide_lap, unhide_words, unhide_at}
+use Rattle.links.proofs.Lap.{Left}
+use Rattle.links.proofs.Hiding.{hide_lap}
 use Rattle.links.proofs.c.unhide.Given as goal
 
 abbrev pub invariant-loop-q : goal.invariant-loop-q

@@ -1,6 +1,6 @@
+-- `links::c::unlink_node` meets its contract: the three words that it writes are those of the event. Assumes nothing.
 use native.Mathlib.Omega.{arith}
 use Rattle.links.proofs.Words.{has_stand, down_inside, up_inside, can_lower, unlink_done}
-use borrow.Author.Rules.{rules}
 use Rattle.links.proofs.c.unlink_node.Goals as goal
 
 pub stand_of-s-requires : goal.stand_of-s-requires
@@ -18,6 +18,6 @@ lower_len-requires c =
     record { i_in_bounds = p.0; above = p.1 }
 
 pub returns : goal.returns
-returns c = 
+returns c =
     unlink_done c.requires.4.between c.stand_of-s.ensures c.put_down.ensures
     c.put_up.ensures c.lower_len.ensures

@@ -1,15 +1,10 @@
-use mathlib.Core.Path.{◌≡◌, sym, ap, ◌∙◌}
+-- `links::c::unpurify` meets its contract. The loop's invariant is that of `uncover`: the first nodes of the list, as
+-- many as `left` says, are still to be met on the way back. The measure is `left`. Assumes nothing.
 use mathlib.Core.List.{List}
-use Prim.Native.Nat.{suc}
-use native.Mathlib.Omega.{arith}
 use lib.IntN.{ℤ}
-use Rattle.rules.specs.Problem.{Entry, Problem, items}
-use Rattle.rules.specs.Links.{linked, run_events}
-use Rattle.tables.specs.Met.{met_all}
+use Rattle.rules.specs.Problem.{Entry, Problem}
 use Rattle.links.specs.Steps.{Purified}
-use Rattle.links.proofs.Words.{has_entry, read_colour, read_header}
-use Rattle.links.proofs.Touching.{touch_coloured}
-use Rattle.links.proofs.Untouching.{Untouching, end_size, still_length, has_last, untouching_start, untouching_size, untouching_end, fore, untouching_some, untouching_node, has_previous, untouching_next}
+use Rattle.links.proofs.Untouching.{Untouching}
 use Rattle.links.proofs.c.unpurify.Given as goal
 
 abbrev pub invariant-loop-q : goal.invariant-loop-q

@@ -1,12 +1,10 @@
-use mathlib.Core.Path.{refl, ◌∙◌}
+-- `links::x::cover` meets its contract. The loop's invariant: the walk has met the first nodes of the list, the rest is
+-- as long as `left` says, and the updates are the price of what was done. The measure is `left`. Assumes nothing.
 use mathlib.Core.List.{List}
 use Prim.Native.Nat.{ℕ}
-use native.Mathlib.Omega.{arith}
-use Rattle.rules.specs.Problem.{Entry, Problem, items}
-use Rattle.links.specs.Moves.{bare, Done, CanCover}
-use Rattle.links.proofs.Words.{done_at}
-use Rattle.links.proofs.Touching.{meet, Touching, touching_few, has_length, has_first, touching_start, touching_long, met_now, touching_some, touching_node, has_next, touching_next, sum_few, met_list, paid}
-use Rattle.links.proofs.Covering.{can_touch, hide_meets, can_leave, covered}
+use Rattle.rules.specs.Problem.{Entry, Problem}
+use Rattle.links.specs.Moves.{bare, CanCover}
+use Rattle.links.proofs.Touching.{Touching}
 use Rattle.links.proofs.x.cover.Given as goal
 
 abbrev pub invariant-loop-p : goal.invariant-loop-p

@@ -1,3 +1,5 @@
+-- `links::x::rlink` meets its contract: the right link of a member of the ring is the following member. Assumes
+-- nothing.
 use mathlib.Core.Path.{refl}
 use native.Mathlib.Omega.{arith}
 use Rattle.links.proofs.Words.{has_link, read}

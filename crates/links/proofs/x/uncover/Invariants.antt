@@ -1,14 +1,14 @@
-use mathlib.Core.Path.{◌≡◌, refl, sym, ap, ◌∙◌}
+-- `links::x::uncover` meets its contract. The loop's invariant: the first nodes of the list, as many as `left` says,
+-- are still to be met on the way back. The measure is `left`. Assumes nothing.
+use mathlib.Core.Path.{◌≡◌}
 use mathlib.Core.List.{List}
 use Prim.Native.Nat.{ℕ}
-use native.Mathlib.Omega.{arith}
 use lib.IntN.{ℤ}
 use Rattle.rules.specs.Problem.{Entry, Problem, items}
-use Rattle.rules.specs.Links.{linked, touch, run_events}
+use Rattle.rules.specs.Links.{linked, run_events}
 use Rattle.tables.specs.Met.{met_all}
-use Rattle.links.specs.Moves.{bare, CanCover, Covered}
-use Rattle.links.proofs.Untouching.{Untouching, end_size, still_length, has_last, untouching_start, untouching_size, untouching_end, fore, untouching_some, untouching_node, has_previous, untouching_next}
-use Rattle.links.proofs.Covering.{can_touch, bare_hidden, can_return, returned}
+use Rattle.links.specs.Moves.{bare, CanCover}
+use Rattle.links.proofs.Untouching.{Untouching}
 use Rattle.links.proofs.x.uncover.Given as goal
 
 abbrev pub invariant-loop-p : goal.invariant-loop-p
