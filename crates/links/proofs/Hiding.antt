@@ -14,7 +14,7 @@ use lib.ListN.{length, take, drop, length-append}
 use Rattle.rules.specs.Lists.{also, keep, flat}
 use Rattle.rules.specs.Words.{word}
 use Rattle.rules.specs.Problem.{Entry, Problem, items}
-use Rattle.rules.specs.Order.{has_item, Choice, node}
+use Rattle.rules.specs.Order.{has_item, Choice}
 use Rattle.rules.specs.Links.{Event, unlink, Node, nodes_from, others, hide, cost, top, colour_at, apply, run_events}
 use Rattle.laws.specs.Lists.{one_true, tested, keep_length, flat_append}
 use Rattle.tables.specs.Nodes.{nodes, nodes_range, nodes_length, placed_range, others_mem}
