@@ -1,0 +1,12 @@
+use Prim.Native.Nat.{◌-◌}
+use native.Mathlib.Omega.{arith}
+use borrow.Author.Rules.{rules}
+use lib.ListN.{length}
+use Rattle.text.proofs.Placing.{Counting, count_start, count_turn, counted}
+use Rattle.text.proofs.items.count.Given as goal
+
+abbrev pub invariant-loop-at : goal.invariant-loop-at
+invariant-loop-at l = Counting l.line l.tokens l.at
+
+abbrev pub decreases-loop-at : goal.decreases-loop-at
+decreases-loop-at l = length l.line - l.at

@@ -1,0 +1,36 @@
+use mathlib.Core.Path.{sym, ◌∙◌}
+use Prim.Native.Nat.{◌-◌}
+use native.Mathlib.Omega.{arith}
+use borrow.Author.Rules.{rules}
+use lib.ListN.{length}
+use Rattle.text.proofs.Placing.{Finding, find_start, find_turn, find_hit, find_end}
+use Rattle.text.proofs.items.find_name.Goals as goal
+
+pub loop-at-init : goal.loop-at-init
+loop-at-init c = find_start c.args.line.now c.args.class c.args.name.now c.args.from
+
+pub slice_bounds-look-count : goal.slice_bounds-look-count
+slice_bounds-look-count c = omega arith
+
+pub slice_bounds-look-start : goal.slice_bounds-look-start
+slice_bounds-look-start c = omega arith
+
+pub slice_bounds-look-end : goal.slice_bounds-look-end
+slice_bounds-look-end c = omega arith
+
+pub returns-in-At : goal.returns-in-At
+returns-in-At c = -- CHECK split ['value', 'low_place']
+    find_hit c.loop-at.invariant c.scan-end.ensures (sym c.look.ensures ∙ c.in-At.is)
+
+pub overflow_add-at : goal.overflow_add-at
+overflow_add-at c = omega arith
+
+pub loop-at-smaller : goal.loop-at-smaller
+loop-at-smaller c = omega arith
+
+pub loop-at-preserved : goal.loop-at-preserved
+loop-at-preserved c = 
+    find_turn c.loop-at.invariant c.scan-end.ensures (sym c.look.ensures ∙ c.in-Past.is)
+
+pub returns : goal.returns
+returns c = record { value = find_end c.loop-at.invariant c.loop-at-test.false; low_place = c.loop-at.invariant.few }

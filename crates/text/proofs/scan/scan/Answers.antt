@@ -1,0 +1,29 @@
+use mathlib.Core.Path.{sym, ◌∙◌}
+use Prim.Native.Nat.{◌-◌}
+use native.Mathlib.Omega.{arith}
+use borrow.Author.Rules.{rules}
+use lib.ListN.{length}
+use Rattle.text.specs.Scan.{stops_at}
+use Rattle.text.proofs.Bytes.{Scanning, scan_start, scan_turn, scan_found, scan_end}
+use Rattle.text.proofs.scan.scan.Goals as goal
+
+pub loop-i-init : goal.loop-i-init
+loop-i-init c = scan_start (stops_at c.args.stop) c.args.s.now c.args.from c.requires
+
+pub bounds-s-i : goal.bounds-s-i
+bounds-s-i c = omega arith
+
+pub returns-then-stops : goal.returns-then-stops
+returns-then-stops c = scan_found c.loop-i.invariant (sym c.stops.ensures ∙ c.if-stops.true)
+
+pub overflow_add-i : goal.overflow_add-i
+overflow_add-i c = omega arith
+
+pub loop-i-smaller : goal.loop-i-smaller
+loop-i-smaller c = omega arith
+
+pub loop-i-preserved : goal.loop-i-preserved
+loop-i-preserved c = scan_turn c.loop-i.invariant c.loop-i-test.true (sym c.stops.ensures ∙ c.if-stops.false)
+
+pub returns : goal.returns
+returns c = scan_end c.loop-i.invariant c.loop-i-test.false
