@@ -21,5 +21,5 @@ pub read_options-requires : goal.read_options-requires
 read_options-requires c = record { parts = (((simp length-take (omega (arith, c.requires.short.0))), (simp (length-take, length-drop) (omega (arith, c.requires.short.0)))), c.requires.short.1); le_number = c.requires.le_number }
 
 pub returns : goal.returns
-returns c = 
+returns c =
     c.read_options.ensures ∙ ap (λ (K : Items). under_options c.args.front K c.args.number c.args.rest.now c.args.words.now) (items_same c.args.front c.args.items.now c.bar_at-bar.ensures c.past-after.ensures)

@@ -19,8 +19,9 @@ pub slice_bounds-look-end : goal.slice_bounds-look-end
 slice_bounds-look-end c = omega arith
 
 pub returns-in-At : goal.returns-in-At
-returns-in-At c = -- CHECK split ['value', 'low_place']
-    find_hit c.loop-at.invariant c.scan-end.ensures (sym c.look.ensures ∙ c.in-At.is)
+returns-in-At c =
+    let p = find_hit c.loop-at.invariant c.scan-end.ensures (sym c.look.ensures ∙ c.in-At.is) in
+    record { value = p.0; low_place = p.1 }
 
 pub overflow_add-at : goal.overflow_add-at
 overflow_add-at c = omega arith
@@ -29,7 +30,7 @@ pub loop-at-smaller : goal.loop-at-smaller
 loop-at-smaller c = omega arith
 
 pub loop-at-preserved : goal.loop-at-preserved
-loop-at-preserved c = 
+loop-at-preserved c =
     find_turn c.loop-at.invariant c.scan-end.ensures (sym c.look.ensures ∙ c.in-Past.is)
 
 pub returns : goal.returns

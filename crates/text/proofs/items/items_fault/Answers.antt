@@ -49,7 +49,7 @@ pub loop-at-smaller : goal.loop-at-smaller
 loop-at-smaller c = omega arith
 
 pub loop-at-preserved : goal.loop-at-preserved
-loop-at-preserved c = 
+loop-at-preserved c =
     judged_turn c.loop-at.invariant c.scan-end.ensures c.item_fault.ensures c.if-item_fault.false c.bar_passed-second.ensures
 
 pub returns : goal.returns

@@ -8,7 +8,7 @@ use Rattle.text.proofs.Pieces.{part_long}
 use Rattle.text.proofs.lines.check_options.Goals as goal
 
 pub loop-at-init : goal.loop-at-init
-loop-at-init c = 
+loop-at-init c =
     check_start c.args.front (known c.args.front c.args.primary.now c.args.secondary.now) c.args.rest.now c.args.from c.requires.le_from.0
 
 pub slice_bounds-line-count : goal.slice_bounds-line-count
@@ -30,7 +30,7 @@ pub overflow_add-options : goal.overflow_add-options
 overflow_add-options c = omega arith
 
 pub words_of-words-requires : goal.words_of-words-requires
-words_of-words-requires c = 
+words_of-words-requires c =
     (let l = part_long c.args.rest.now c.loop-at.at c.scan-end.result c.scan-end.ensures.low c.scan-end.ensures.high in omega (arith, c.requires.parts.1))
 
 pub overflow_add-words : goal.overflow_add-words
@@ -46,7 +46,7 @@ pub loop-at-smaller : goal.loop-at-smaller
 loop-at-smaller c = omega arith
 
 pub loop-at-preserved : goal.loop-at-preserved
-loop-at-preserved c = 
+loop-at-preserved c =
     check_turn c.loop-at.invariant c.scan-end.ensures c.line_fault.ensures c.if-line_fault.false c.options_of-options.ensures.0 c.options_of-options.ensures.1 c.words_of-words.ensures.0 c.words_of-words.ensures.1
 
 pub returns : goal.returns

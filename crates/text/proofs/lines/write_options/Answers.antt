@@ -10,7 +10,7 @@ use Rattle.text.proofs.Writing.{put_start, put_end}
 use Rattle.text.proofs.lines.write_options.Goals as goal
 
 pub loop-at-init : goal.loop-at-init
-loop-at-init c = 
+loop-at-init c =
     record { put = put_start (options_words (known c.args.front c.args.primary.now c.args.secondary.now) (lines c.args.rest.now)) c.args.words.now c.args.place }
 
 pub slice_bounds-write_line-count : goal.slice_bounds-write_line-count
@@ -38,5 +38,5 @@ pub shape_of-words : goal.shape_of-words
 shape_of-words c = c.loop-at.invariant.put.long
 
 pub returns : goal.returns
-returns c = 
+returns c =
     (put_end c.loop-at.invariant.put (words_end c.args.rest.now c.loop-at.at c.loop-at-test.false (known c.args.front c.args.primary.now c.args.secondary.now))).1

@@ -9,7 +9,7 @@ pub returns-in_default : goal.returns-in_default
 returns-in_default c = record { value = entered_none (known c.args.front c.args.primary.now c.args.secondary.now) c.args.token.now c.cut.ensures c.in_default.is; low_entry = tt }
 
 pub slice_bounds-entry-end : goal.slice_bounds-entry-end
-slice_bounds-entry-end c = 
+slice_bounds-entry-end c =
     sym (length-take-le c.in-Is.end c.args.token.now (cuts_within c.args.token.now c.cut.ensures c.in-Is.is))
 
 pub entry-requires : goal.entry-requires

@@ -9,7 +9,7 @@ use Rattle.text.proofs.Writing.{put_start, put_end, words_end, PuttingEntries, e
 use Rattle.text.proofs.options.write_entries.Goals as goal
 
 pub loop-at-init : goal.loop-at-init
-loop-at-init c = 
+loop-at-init c =
     record { put = put_start (entries_words (known c.args.front c.args.primary.now c.args.secondary.now) (tokens c.args.line.now)) c.args.words.now c.args.place }
 
 pub slice_bounds-write_entry-count : goal.slice_bounds-write_entry-count
@@ -37,5 +37,6 @@ pub shape_of-words : goal.shape_of-words
 shape_of-words c = c.loop-at.invariant.put.long
 
 pub returns : goal.returns
-returns c = -- CHECK split ['value', 'words_after']
-    put_end c.loop-at.invariant.put (words_end (known c.args.front c.args.primary.now c.args.secondary.now) c.args.line.now c.loop-at.at c.loop-at-test.false)
+returns c =
+    let p = put_end c.loop-at.invariant.put (words_end (known c.args.front c.args.primary.now c.args.secondary.now) c.args.line.now c.loop-at.at c.loop-at-test.false) in
+    record { value = p.0; words_after = p.1 }
