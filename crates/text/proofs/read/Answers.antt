@@ -1,5 +1,4 @@
 use native.Mathlib.Omega.{arith}
-use borrow.Author.Rules.{rules}
 use lib.ListN.{length-take, length-drop}
 use Rattle.text.proofs.Outcomes.{after_within, text_long_refused, text_faulty, text_missing, found_at, text_found}
 use Rattle.text.proofs.read.Goals as goal

@@ -1,5 +1,4 @@
 use native.Mathlib.Omega.{arith}
-use borrow.Author.Rules.{rules}
 use Rattle.text.specs.Read.{known}
 use Rattle.text.proofs.Outcomes.{checked_faulty, checked_are, checked_none, checked_short, checked_read}
 use Rattle.text.proofs.read_options.Goals as goal
@@ -17,8 +16,11 @@ returns-then-words-count c =
     checked_short c.args.front (known c.args.front c.args.primary.now c.args.secondary.now) c.args.number c.args.rest.now c.args.words.now c.check_options.ensures c.in-Are.is c.if-options-eq0.false c.if-words-count.true
 
 pub write_problem-requires : goal.write_problem-requires
-write_problem-requires c = record { parts = c.requires.parts; room = (let k = checked_are c.args.front (known c.args.front c.args.primary.now c.args.secondary.now) c.args.number c.args.rest.now c.args.words.now c.check_options.ensures c.in-Are.is in
-          record { options_are = k.options_are; few = k.few; enough = omega (arith, k.words_are, c.if-words-count.false) }) }
+write_problem-requires c = record {
+  parts = c.requires.parts;
+  room = (let k = checked_are c.args.front (known c.args.front c.args.primary.now c.args.secondary.now) c.args.number c.args.rest.now c.args.words.now c.check_options.ensures c.in-Are.is in
+      record { options_are = k.options_are; few = k.few; enough = omega (arith, k.words_are, c.if-words-count.false) });
+}
 
 pub returns-in-Faulty : goal.returns-in-Faulty
 returns-in-Faulty c =

@@ -1,4 +1,3 @@
-use borrow.Author.Rules.{rules}
 use Rattle.text.proofs.Outcomes.{heads_are}
 use Rattle.text.proofs.write_problem.Goals as goal
 

@@ -1,9 +1,6 @@
 use mathlib.Core.Path.{sym, ◌∙◌}
-use Prim.Native.Nat.{◌-◌}
 use native.Mathlib.Omega.{arith}
-use borrow.Author.Rules.{rules}
-use lib.ListN.{length}
-use Rattle.text.proofs.Barring.{Looking, look_start, look_found, look_turn, look_end}
+use Rattle.text.proofs.Barring.{look_start, look_found, look_turn, look_end}
 use Rattle.text.proofs.items.bar_at.Goals as goal
 
 pub loop-at-init : goal.loop-at-init

@@ -1,9 +1,6 @@
-use mathlib.Core.Path.{sym, ◌∙◌}
 use Prim.Native.Nat.{◌-◌}
-use native.Mathlib.Omega.{arith}
-use borrow.Author.Rules.{rules}
 use lib.ListN.{length}
-use Rattle.text.proofs.Barring.{Looking, look_start, look_found, look_turn, look_end}
+use Rattle.text.proofs.Barring.{Looking}
 use Rattle.text.proofs.items.bar_at.Given as goal
 
 abbrev pub invariant-loop-at : goal.invariant-loop-at

@@ -1,4 +1,3 @@
-use borrow.Author.Rules.{rules}
 use Rattle.text.proofs.Barring.{bar_first}
 use Rattle.text.proofs.items.bar_passed.Goals as goal
 

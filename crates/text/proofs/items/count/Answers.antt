@@ -1,8 +1,5 @@
-use Prim.Native.Nat.{◌-◌}
 use native.Mathlib.Omega.{arith}
-use borrow.Author.Rules.{rules}
-use lib.ListN.{length}
-use Rattle.text.proofs.Placing.{Counting, count_start, count_turn, counted}
+use Rattle.text.proofs.Placing.{count_start, count_turn, counted}
 use Rattle.text.proofs.items.count.Goals as goal
 
 pub loop-at-init : goal.loop-at-init

@@ -1,8 +1,6 @@
 use Prim.Native.Nat.{◌-◌}
-use native.Mathlib.Omega.{arith}
-use borrow.Author.Rules.{rules}
 use lib.ListN.{length}
-use Rattle.text.proofs.Placing.{Counting, count_start, count_turn, counted}
+use Rattle.text.proofs.Placing.{Counting}
 use Rattle.text.proofs.items.count.Given as goal
 
 abbrev pub invariant-loop-at : goal.invariant-loop-at

@@ -1,9 +1,6 @@
 use mathlib.Core.Path.{sym, ◌∙◌}
-use Prim.Native.Nat.{◌-◌}
 use native.Mathlib.Omega.{arith}
-use borrow.Author.Rules.{rules}
-use lib.ListN.{length}
-use Rattle.text.proofs.Placing.{Finding, find_start, find_turn, find_hit, find_end}
+use Rattle.text.proofs.Placing.{find_start, find_turn, find_hit, find_end}
 use Rattle.text.proofs.items.find_name.Goals as goal
 
 pub loop-at-init : goal.loop-at-init

@@ -1,5 +1,4 @@
 use native.Mathlib.Omega.{arith}
-use borrow.Author.Rules.{rules}
 use Rattle.rules.specs.Text.{tokens}
 use Rattle.text.proofs.Placing.{primary_first, primary_second, low_at, low_past, low_after}
 use Rattle.text.proofs.items.find_primary.Goals as goal

@@ -1,6 +1,5 @@
 use mathlib.Core.Bool.{not}
 use mathlib.Core.Path.{ap}
-use borrow.Author.Rules.{rules}
 use Rattle.text.proofs.Placing.{of_class}
 use Rattle.text.proofs.items.is_of.Goals as goal
 

@@ -1,5 +1,4 @@
 use mathlib.Core.Path.{sym, ◌∙◌}
-use borrow.Author.Rules.{rules}
 use Rattle.rules.specs.Text.{tokens}
 use Rattle.text.proofs.Barring.{fault_empty, fault_second, fault_last, fault_name, fault_again}
 use Rattle.text.proofs.items.item_fault.Goals as goal

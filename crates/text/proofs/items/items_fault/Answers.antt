@@ -1,9 +1,7 @@
 use mathlib.Core.Path.{refl}
-use Prim.Native.Nat.{◌-◌}
 use native.Mathlib.Omega.{arith}
-use borrow.Author.Rules.{rules}
-use lib.ListN.{length, length-take, length-drop}
-use Rattle.text.proofs.Barring.{Judging, judged_fault, judged_turn, judged_end}
+use lib.ListN.{length-take, length-drop}
+use Rattle.text.proofs.Barring.{judged_fault, judged_turn, judged_end}
 use Rattle.text.proofs.items.items_fault.Goals as goal
 
 pub loop-at-init : goal.loop-at-init

@@ -1,9 +1,6 @@
-use mathlib.Core.Path.{refl}
 use Prim.Native.Nat.{◌-◌}
-use native.Mathlib.Omega.{arith}
-use borrow.Author.Rules.{rules}
-use lib.ListN.{length, length-take, length-drop}
-use Rattle.text.proofs.Barring.{Judging, judged_fault, judged_turn, judged_end}
+use lib.ListN.{length}
+use Rattle.text.proofs.Barring.{Judging}
 use Rattle.text.proofs.items.items_fault.Given as goal
 
 abbrev pub invariant-loop-at : goal.invariant-loop-at

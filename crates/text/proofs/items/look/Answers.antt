@@ -1,5 +1,4 @@
 use mathlib.Core.Path.{sym, ◌∙◌}
-use borrow.Author.Rules.{rules}
 use Rattle.text.proofs.Placing.{look_empty, look_other, look_same, look_next}
 use Rattle.text.proofs.items.look.Goals as goal
 

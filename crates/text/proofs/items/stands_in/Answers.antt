@@ -1,4 +1,3 @@
-use borrow.Author.Rules.{rules}
 use Rattle.text.proofs.Placing.{stands, stands_not}
 use Rattle.text.proofs.items.stands_in.Goals as goal
 

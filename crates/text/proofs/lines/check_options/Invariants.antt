@@ -1,10 +1,7 @@
 use Prim.Native.Nat.{◌-◌}
-use native.Mathlib.Omega.{arith}
-use borrow.Author.Rules.{rules}
 use lib.ListN.{length}
 use Rattle.text.specs.Read.{known}
-use Rattle.text.proofs.Lining.{Checking, check_start, check_faulty, check_turn, check_end}
-use Rattle.text.proofs.Pieces.{part_long}
+use Rattle.text.proofs.Lining.{Checking}
 use Rattle.text.proofs.lines.check_options.Given as goal
 
 abbrev pub invariant-loop-at : goal.invariant-loop-at

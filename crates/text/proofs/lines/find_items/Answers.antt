@@ -1,10 +1,7 @@
 use mathlib.Core.Option.{none}
 use mathlib.Core.Path.{sym, ◌∙◌}
-use Prim.Native.Nat.{◌-◌}
 use native.Mathlib.Omega.{arith}
-use borrow.Author.Rules.{rules}
-use lib.ListN.{length}
-use Rattle.text.proofs.Lining.{Seeking, seek_start, seek_faulty, seek_turn, seek_found, seek_end, bad_byte, bad_items}
+use Rattle.text.proofs.Lining.{seek_start, seek_faulty, seek_turn, seek_found, seek_end, bad_byte, bad_items}
 use Rattle.text.proofs.Pieces.{part_long}
 use Rattle.text.proofs.lines.find_items.Goals as goal
 

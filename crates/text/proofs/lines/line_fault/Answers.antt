@@ -1,6 +1,5 @@
 use mathlib.Core.Option.{some}
 use mathlib.Core.Path.{sym, ◌∙◌}
-use borrow.Author.Rules.{rules}
 use Rattle.text.specs.Read.{known}
 use Rattle.text.proofs.Lining.{bad_byte, fine_passed, bad_option}
 use Rattle.text.proofs.lines.line_fault.Goals as goal

@@ -1,6 +1,5 @@
 use mathlib.Core.Path.{sym, ◌∙◌}
 use native.Mathlib.Omega.{arith}
-use borrow.Author.Rules.{rules}
 use Rattle.text.proofs.Lining.{options_none, options_one}
 use Rattle.text.proofs.lines.options_of.Goals as goal
 

@@ -1,6 +1,5 @@
 use mathlib.Core.Path.{sym, ◌∙◌}
 use native.Mathlib.Omega.{arith}
-use borrow.Author.Rules.{rules}
 use Rattle.text.proofs.Lining.{counts_none, counts_some}
 use Rattle.text.proofs.lines.words_of.Goals as goal
 

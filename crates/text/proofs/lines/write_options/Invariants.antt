@@ -1,12 +1,7 @@
 use Prim.Native.Nat.{◌-◌}
-use native.Mathlib.Omega.{arith}
-use borrow.Author.Rules.{rules}
 use lib.ListN.{length}
-use Rattle.rules.specs.Text.{lines}
-use Rattle.text.specs.Read.{known, options_words}
-use Rattle.text.proofs.Lining.{words_end, PuttingOptions, options_room, options_turn}
-use Rattle.text.proofs.Pieces.{part_long}
-use Rattle.text.proofs.Writing.{put_start, put_end}
+use Rattle.text.specs.Read.{known}
+use Rattle.text.proofs.Lining.{PuttingOptions}
 use Rattle.text.proofs.lines.write_options.Given as goal
 
 abbrev pub invariant-loop-at : goal.invariant-loop-at

@@ -1,5 +1,4 @@
 use native.Mathlib.Omega.{arith}
-use borrow.Author.Rules.{rules}
 use Rattle.text.proofs.Entering.{cut_plain, cut_long, cut_colons, cut_colour}
 use Rattle.text.proofs.options.cut.Goals as goal
 

@@ -1,5 +1,4 @@
 use native.Mathlib.Omega.{arith}
-use borrow.Author.Rules.{rules}
 use Rattle.text.proofs.Entering.{entry_plain, entry_coloured, entry_second, entry_none}
 use Rattle.text.proofs.Placing.{low_at, low_past}
 use Rattle.text.proofs.options.entry.Goals as goal

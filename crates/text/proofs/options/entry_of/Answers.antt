@@ -1,5 +1,4 @@
 use mathlib.Core.Path.{sym}
-use borrow.Author.Rules.{rules}
 use lib.Seq.{length-take-le}
 use Rattle.text.specs.Read.{known}
 use Rattle.text.proofs.Entering.{entered_none, entered_as, cuts_within, cuts_low}

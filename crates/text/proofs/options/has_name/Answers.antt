@@ -1,5 +1,4 @@
 use mathlib.Core.Path.{sym}
-use borrow.Author.Rules.{rules}
 use lib.Seq.{length-take-le}
 use Rattle.text.proofs.Entering.{names_empty, names_some}
 use Rattle.text.proofs.options.has_name.Goals as goal

@@ -1,4 +1,3 @@
-use borrow.Author.Rules.{rules}
 use Rattle.rules.specs.Text.{entered}
 use Rattle.text.specs.Read.{known}
 use Rattle.text.proofs.Entering.{told_got, told_not}

@@ -1,9 +1,6 @@
 use mathlib.Core.Path.{refl}
-use Prim.Native.Nat.{◌-◌}
 use native.Mathlib.Omega.{arith}
-use borrow.Author.Rules.{rules}
-use lib.ListN.{length}
-use Rattle.text.proofs.Entering.{Naming, named_found, named_turn, named_end}
+use Rattle.text.proofs.Entering.{named_found, named_turn, named_end}
 use Rattle.text.proofs.options.named_in.Goals as goal
 
 pub loop-at-init : goal.loop-at-init

@@ -1,9 +1,6 @@
-use mathlib.Core.Path.{refl}
 use Prim.Native.Nat.{◌-◌}
-use native.Mathlib.Omega.{arith}
-use borrow.Author.Rules.{rules}
 use lib.ListN.{length}
-use Rattle.text.proofs.Entering.{Naming, named_found, named_turn, named_end}
+use Rattle.text.proofs.Entering.{Naming}
 use Rattle.text.proofs.options.named_in.Given as goal
 
 abbrev pub invariant-loop-at : goal.invariant-loop-at

@@ -1,10 +1,6 @@
 use mathlib.Core.Path.{refl}
-use Prim.Native.Nat.{◌-◌}
 use native.Mathlib.Omega.{arith}
-use borrow.Author.Rules.{rules}
-use lib.ListN.{length}
-use Rattle.text.specs.Read.{known}
-use Rattle.text.proofs.Entering.{Trying, tried_fault, tried_turn, tried_end}
+use Rattle.text.proofs.Entering.{tried_fault, tried_turn, tried_end}
 use Rattle.text.proofs.options.option_fault.Goals as goal
 
 pub loop-at-init : goal.loop-at-init

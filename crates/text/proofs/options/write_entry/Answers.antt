@@ -1,6 +1,5 @@
 use mathlib.Core.Path.{ap}
 use native.Mathlib.Omega.{arith}
-use borrow.Author.Rules.{rules}
 use lib.ListN.{length}
 use Rattle.text.specs.Read.{known}
 use Rattle.text.proofs.Writing.{put_none, put_two, set_long, words_empty, words_are, words_none, low_item}

@@ -1,4 +1,3 @@
-use borrow.Author.Rules.{rules}
 use Rattle.text.proofs.Bytes.{found_so}
 use Rattle.text.proofs.scan.has_sharp.Goals as goal
 

@@ -1,5 +1,4 @@
 use mathlib.Core.List.{[], ◌∷◌}
-use borrow.Author.Rules.{rules}
 use Rattle.text.proofs.Bytes.{other_length, bar_one}
 use Rattle.text.proofs.scan.is_bar.Goals as goal
 

@@ -1,4 +1,3 @@
-use borrow.Author.Rules.{rules}
 use Rattle.rules.specs.Text.{allowed}
 use Rattle.text.proofs.Bytes.{all_so}
 use Rattle.text.proofs.scan.is_clean.Goals as goal

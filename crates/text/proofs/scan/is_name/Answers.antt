@@ -1,4 +1,3 @@
-use borrow.Author.Rules.{rules}
 use Rattle.rules.specs.Text.{name_byte}
 use Rattle.text.proofs.Bytes.{all_so}
 use Rattle.text.proofs.scan.is_name.Goals as goal

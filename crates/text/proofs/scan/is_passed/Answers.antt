@@ -1,5 +1,4 @@
 use native.Mathlib.Omega.{arith}
-use borrow.Author.Rules.{rules}
 use Rattle.text.proofs.Passing.{passed_blank, passed_first}
 use Rattle.text.proofs.scan.is_passed.Goals as goal
 

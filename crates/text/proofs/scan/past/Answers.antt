@@ -1,4 +1,3 @@
-use borrow.Author.Rules.{rules}
 use Rattle.text.proofs.Bytes.{past_next, past_end}
 use Rattle.text.proofs.scan.past.Goals as goal
 

@@ -1,8 +1,6 @@
-use mathlib.Core.Path.{refl}
 use Prim.Native.Nat.{◌-◌}
-use native.Mathlib.Omega.{arith}
 use lib.ListN.{length}
-use Rattle.text.proofs.Bytes.{other_length, Comparing, differ, agree, compared}
+use Rattle.text.proofs.Bytes.{Comparing}
 use Rattle.text.proofs.scan.same.Given as goal
 
 abbrev pub invariant-loop-i : goal.invariant-loop-i

@@ -1,10 +1,7 @@
-use mathlib.Core.Path.{sym, ◌∙◌}
 use Prim.Native.Nat.{◌-◌}
-use native.Mathlib.Omega.{arith}
-use borrow.Author.Rules.{rules}
 use lib.ListN.{length}
 use Rattle.text.specs.Scan.{stops_at}
-use Rattle.text.proofs.Bytes.{Scanning, scan_start, scan_turn, scan_found, scan_end}
+use Rattle.text.proofs.Bytes.{Scanning}
 use Rattle.text.proofs.scan.scan.Given as goal
 
 abbrev pub invariant-loop-i : goal.invariant-loop-i

@@ -1,6 +1,5 @@
 use mathlib.Core.Bool.{not}
 use mathlib.Core.Path.{refl, ap}
-use borrow.Author.Rules.{rules}
 use Rattle.text.proofs.Bytes.{stops_as}
 use Rattle.text.proofs.scan.stops.Goals as goal
 
