@@ -6,23 +6,8 @@ use Rattle.text.proofs.items.bar_at.Goals as goal
 pub loop-at-init : goal.loop-at-init
 loop-at-init c = look_start c.args.items.now
 
-pub slice_bounds-is_bar-count : goal.slice_bounds-is_bar-count
-slice_bounds-is_bar-count c = omega arith
-
-pub slice_bounds-is_bar-start : goal.slice_bounds-is_bar-start
-slice_bounds-is_bar-start c = omega arith
-
-pub slice_bounds-is_bar-end : goal.slice_bounds-is_bar-end
-slice_bounds-is_bar-end c = omega arith
-
 pub returns-then-is_bar : goal.returns-then-is_bar
 returns-then-is_bar c = look_found c.loop-at.invariant c.loop-at-test.true c.scan-end.ensures (sym c.is_bar.ensures ∙ c.if-is_bar.true)
-
-pub overflow_add-at : goal.overflow_add-at
-overflow_add-at c = omega arith
-
-pub loop-at-smaller : goal.loop-at-smaller
-loop-at-smaller c = omega arith
 
 pub loop-at-preserved : goal.loop-at-preserved
 loop-at-preserved c = look_turn c.loop-at.invariant c.loop-at-test.true c.scan-end.ensures (sym c.is_bar.ensures ∙ c.if-is_bar.false)

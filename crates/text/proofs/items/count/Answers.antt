@@ -5,23 +5,8 @@ use Rattle.text.proofs.items.count.Goals as goal
 pub loop-at-init : goal.loop-at-init
 loop-at-init c = count_start c.args.line.now
 
-pub slice_bounds-filled-count : goal.slice_bounds-filled-count
-slice_bounds-filled-count c = omega arith
-
-pub slice_bounds-filled-start : goal.slice_bounds-filled-start
-slice_bounds-filled-start c = omega arith
-
-pub slice_bounds-filled-end : goal.slice_bounds-filled-end
-slice_bounds-filled-end c = omega arith
-
 pub overflow_add-tokens : goal.overflow_add-tokens
 overflow_add-tokens c = omega (arith, (count_turn c.loop-at.invariant c.scan-end.ensures c.filled-tokens.ensures).few)
-
-pub overflow_add-at : goal.overflow_add-at
-overflow_add-at c = omega arith
-
-pub loop-at-smaller : goal.loop-at-smaller
-loop-at-smaller c = omega arith
 
 pub loop-at-preserved : goal.loop-at-preserved
 loop-at-preserved c = count_turn c.loop-at.invariant c.scan-end.ensures c.filled-tokens.ensures

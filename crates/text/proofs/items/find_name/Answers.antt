@@ -6,25 +6,10 @@ use Rattle.text.proofs.items.find_name.Goals as goal
 pub loop-at-init : goal.loop-at-init
 loop-at-init c = find_start c.args.line.now c.args.class c.args.name.now c.args.from
 
-pub slice_bounds-look-count : goal.slice_bounds-look-count
-slice_bounds-look-count c = omega arith
-
-pub slice_bounds-look-start : goal.slice_bounds-look-start
-slice_bounds-look-start c = omega arith
-
-pub slice_bounds-look-end : goal.slice_bounds-look-end
-slice_bounds-look-end c = omega arith
-
 pub returns-in-At : goal.returns-in-At
 returns-in-At c =
     let p = find_hit c.loop-at.invariant c.scan-end.ensures (sym c.look.ensures ∙ c.in-At.is) in
     record { value = p.0; low_place = p.1 }
-
-pub overflow_add-at : goal.overflow_add-at
-overflow_add-at c = omega arith
-
-pub loop-at-smaller : goal.loop-at-smaller
-loop-at-smaller c = omega arith
 
 pub loop-at-preserved : goal.loop-at-preserved
 loop-at-preserved c =

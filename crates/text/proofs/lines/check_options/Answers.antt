@@ -8,39 +8,15 @@ pub loop-at-init : goal.loop-at-init
 loop-at-init c =
     check_start c.args.front (known c.args.front c.args.primary.now c.args.secondary.now) c.args.rest.now c.args.from c.requires.le_from.0
 
-pub slice_bounds-line-count : goal.slice_bounds-line-count
-slice_bounds-line-count c = omega arith
-
-pub slice_bounds-line-start : goal.slice_bounds-line-start
-slice_bounds-line-start c = omega arith
-
-pub slice_bounds-line-end : goal.slice_bounds-line-end
-slice_bounds-line-end c = omega arith
-
 pub line_fault-requires : goal.line_fault-requires
 line_fault-requires c = c.requires.parts.0
 
 pub returns-then-line_fault : goal.returns-then-line_fault
 returns-then-line_fault c = check_faulty c.loop-at.invariant c.scan-end.ensures c.line_fault.ensures c.if-line_fault.true
 
-pub overflow_add-options : goal.overflow_add-options
-overflow_add-options c = omega arith
-
 pub words_of-words-requires : goal.words_of-words-requires
 words_of-words-requires c =
     (let l = part_long c.args.rest.now c.loop-at.at c.scan-end.result c.scan-end.ensures.low c.scan-end.ensures.high in omega (arith, c.requires.parts.1))
-
-pub overflow_add-words : goal.overflow_add-words
-overflow_add-words c = omega arith
-
-pub overflow_add-number : goal.overflow_add-number
-overflow_add-number c = omega arith
-
-pub overflow_add-at : goal.overflow_add-at
-overflow_add-at c = omega arith
-
-pub loop-at-smaller : goal.loop-at-smaller
-loop-at-smaller c = omega arith
 
 pub loop-at-preserved : goal.loop-at-preserved
 loop-at-preserved c =

@@ -8,15 +8,6 @@ use Rattle.text.proofs.lines.find_items.Goals as goal
 pub loop-at-init : goal.loop-at-init
 loop-at-init c = seek_start c.args.front c.args.text.now
 
-pub slice_bounds-line-count : goal.slice_bounds-line-count
-slice_bounds-line-count c = omega arith
-
-pub slice_bounds-line-start : goal.slice_bounds-line-start
-slice_bounds-line-start c = omega arith
-
-pub slice_bounds-line-end : goal.slice_bounds-line-end
-slice_bounds-line-end c = omega arith
-
 pub returns-then-not-is_clean : goal.returns-then-not-is_clean
 returns-then-not-is_clean c = seek_faulty c.loop-at.invariant c.scan-end.ensures (bad_byte none _ (sym c.is_clean.ensures ∙ c.if-not-is_clean.true))
 
@@ -28,21 +19,9 @@ pub returns-then-items_fault : goal.returns-then-items_fault
 returns-then-items_fault c =
     seek_faulty c.loop-at.invariant c.scan-end.ensures (sym c.if-items_fault.true ∙ bad_items _ (sym c.is_clean.ensures ∙ c.if-not-is_clean.false) (sym c.is_passed.ensures ∙ c.if-not-is_passed.true) c.items_fault.ensures)
 
-pub overflow_add-result : goal.overflow_add-result
-overflow_add-result c = omega arith
-
 pub returns-then-not-is_passed : goal.returns-then-not-is_passed
 returns-then-not-is_passed c =
     seek_found c.loop-at.invariant c.scan-end.ensures (c.requires) c.loop-at-test.true (sym c.is_passed.ensures ∙ c.if-not-is_passed.true) (sym c.if-items_fault.false ∙ bad_items _ (sym c.is_clean.ensures ∙ c.if-not-is_clean.false) (sym c.is_passed.ensures ∙ c.if-not-is_passed.true) c.items_fault.ensures)
-
-pub overflow_add-number : goal.overflow_add-number
-overflow_add-number c = omega arith
-
-pub overflow_add-at : goal.overflow_add-at
-overflow_add-at c = omega arith
-
-pub loop-at-smaller : goal.loop-at-smaller
-loop-at-smaller c = omega arith
 
 pub loop-at-preserved : goal.loop-at-preserved
 loop-at-preserved c =

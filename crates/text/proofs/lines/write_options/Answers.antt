@@ -10,23 +10,8 @@ pub loop-at-init : goal.loop-at-init
 loop-at-init c =
     record { put = put_start (options_words (known c.args.front c.args.primary.now c.args.secondary.now) (lines c.args.rest.now)) c.args.words.now c.args.place }
 
-pub slice_bounds-write_line-count : goal.slice_bounds-write_line-count
-slice_bounds-write_line-count c = omega arith
-
-pub slice_bounds-write_line-start : goal.slice_bounds-write_line-start
-slice_bounds-write_line-start c = omega arith
-
-pub slice_bounds-write_line-end : goal.slice_bounds-write_line-end
-slice_bounds-write_line-end c = omega arith
-
 pub write_line-next-requires : goal.write_line-next-requires
 write_line-next-requires c = record { parts = (c.requires.parts.0, (let l = part_long c.args.rest.now c.loop-at.at c.scan-end.result c.scan-end.ensures.low c.scan-end.ensures.high in omega (arith, c.requires.parts.1))); line_in_bounds = options_room c.loop-at.invariant c.scan-end.ensures c.requires.rest_in_bounds }
-
-pub overflow_add-at : goal.overflow_add-at
-overflow_add-at c = omega arith
-
-pub loop-at-smaller : goal.loop-at-smaller
-loop-at-smaller c = omega arith
 
 pub loop-at-preserved : goal.loop-at-preserved
 loop-at-preserved c = options_turn c.loop-at.invariant c.scan-end.ensures c.write_line-next.ensures.value c.write_line-next.ensures.words_after

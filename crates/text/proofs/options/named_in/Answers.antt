@@ -6,23 +6,8 @@ use Rattle.text.proofs.options.named_in.Goals as goal
 pub loop-at-init : goal.loop-at-init
 loop-at-init c = record { same = refl }
 
-pub slice_bounds-has_name-count : goal.slice_bounds-has_name-count
-slice_bounds-has_name-count c = omega arith
-
-pub slice_bounds-has_name-start : goal.slice_bounds-has_name-start
-slice_bounds-has_name-start c = omega arith
-
-pub slice_bounds-has_name-end : goal.slice_bounds-has_name-end
-slice_bounds-has_name-end c = omega arith
-
 pub returns-then-has_name : goal.returns-then-has_name
 returns-then-has_name c = named_found c.loop-at.invariant c.scan-end.ensures c.has_name.ensures c.if-has_name.true
-
-pub overflow_add-at : goal.overflow_add-at
-overflow_add-at c = omega arith
-
-pub loop-at-smaller : goal.loop-at-smaller
-loop-at-smaller c = omega arith
 
 pub loop-at-preserved : goal.loop-at-preserved
 loop-at-preserved c = named_turn c.loop-at.invariant c.scan-end.ensures c.has_name.ensures c.if-has_name.false

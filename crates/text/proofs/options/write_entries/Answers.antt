@@ -9,23 +9,8 @@ pub loop-at-init : goal.loop-at-init
 loop-at-init c =
     record { put = put_start (entries_words (known c.args.front c.args.primary.now c.args.secondary.now) (tokens c.args.line.now)) c.args.words.now c.args.place }
 
-pub slice_bounds-write_entry-count : goal.slice_bounds-write_entry-count
-slice_bounds-write_entry-count c = omega arith
-
-pub slice_bounds-write_entry-start : goal.slice_bounds-write_entry-start
-slice_bounds-write_entry-start c = omega arith
-
-pub slice_bounds-write_entry-end : goal.slice_bounds-write_entry-end
-slice_bounds-write_entry-end c = omega arith
-
 pub write_entry-next-requires : goal.write_entry-next-requires
 write_entry-next-requires c = record { parts = c.requires.parts; token_in_bounds = entries_room c.loop-at.invariant c.scan-end.ensures c.requires.line_in_bounds }
-
-pub overflow_add-at : goal.overflow_add-at
-overflow_add-at c = omega arith
-
-pub loop-at-smaller : goal.loop-at-smaller
-loop-at-smaller c = omega arith
 
 pub loop-at-preserved : goal.loop-at-preserved
 loop-at-preserved c = entries_turn c.loop-at.invariant c.scan-end.ensures c.write_entry-next.ensures.value c.write_entry-next.ensures.words_after

@@ -9,20 +9,8 @@ returns-then-a-b c = other_length _ _ c.if-a-b.true
 pub loop-i-init : goal.loop-i-init
 loop-i-init c = record { long = c.if-a-b.false; high = omega arith; same = refl }
 
-pub bounds-a-i : goal.bounds-a-i
-bounds-a-i c = omega arith
-
-pub bounds-b-i : goal.bounds-b-i
-bounds-b-i c = omega arith
-
 pub returns-then-a-i : goal.returns-then-a-i
 returns-then-a-i c = differ c.loop-i.invariant c.loop-i-test.true c.if-a-i.true
-
-pub overflow_add-i : goal.overflow_add-i
-overflow_add-i c = omega arith
-
-pub loop-i-smaller : goal.loop-i-smaller
-loop-i-smaller c = omega arith
 
 pub loop-i-preserved : goal.loop-i-preserved
 loop-i-preserved c = agree c.loop-i.invariant c.loop-i-test.true c.if-a-i.false

@@ -7,17 +7,8 @@ use Rattle.text.proofs.scan.scan.Goals as goal
 pub loop-i-init : goal.loop-i-init
 loop-i-init c = scan_start (stops_at c.args.stop) c.args.s.now c.args.from c.requires
 
-pub bounds-s-i : goal.bounds-s-i
-bounds-s-i c = omega arith
-
 pub returns-then-stops : goal.returns-then-stops
 returns-then-stops c = scan_found c.loop-i.invariant (sym c.stops.ensures ∙ c.if-stops.true)
-
-pub overflow_add-i : goal.overflow_add-i
-overflow_add-i c = omega arith
-
-pub loop-i-smaller : goal.loop-i-smaller
-loop-i-smaller c = omega arith
 
 pub loop-i-preserved : goal.loop-i-preserved
 loop-i-preserved c = scan_turn c.loop-i.invariant c.loop-i-test.true (sym c.stops.ensures ∙ c.if-stops.false)
