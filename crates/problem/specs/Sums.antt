@@ -6,7 +6,6 @@ use Rattle.laws.specs.Lists.{cannot}
 use Rattle.problem.specs.declared.Count.{Count}
 use Rattle.problem.specs.declared.Count.TheVariants.{Of, Missing}
 use Rattle.problem.specs.declared.Entries.{Entries}
-use Rattle.problem.specs.declared.Entries.TheVariants as Entries
 use Rattle.problem.specs.declared.Counted.{Counted}
 use Rattle.problem.specs.declared.Counted.TheVariants.{Right, Wrong}
 use Rattle.problem.specs.declared.Sums.{Sums}
