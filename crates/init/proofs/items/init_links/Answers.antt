@@ -22,8 +22,7 @@ pub overflow_add-i-in-loop-i : goal.overflow_add-i-in-loop-i
 overflow_add-i-in-loop-i c = omega arith
 
 pub put_link-requires : goal.put_link-requires
-put_link-requires c =  -- CHECK split ['a_in_bounds', 'x_bound']
-    omega arith
+put_link-requires c = omega arith
 
 pub overflow_add-i-in-loop-i-2 : goal.overflow_add-i-in-loop-i-2
 overflow_add-i-in-loop-i-2 c = omega arith
@@ -32,8 +31,7 @@ pub overflow_mul-i-in-loop-i : goal.overflow_mul-i-in-loop-i
 overflow_mul-i-in-loop-i c = omega arith
 
 pub put_link-requires-in-loop-i : goal.put_link-requires-in-loop-i
-put_link-requires-in-loop-i c =  -- CHECK split ['a_in_bounds', 'x_bound']
-    omega arith
+put_link-requires-in-loop-i c = omega arith
 
 pub overflow_add-i-in-loop-i-3 : goal.overflow_add-i-in-loop-i-3
 overflow_add-i-in-loop-i-3 c = omega arith
@@ -55,8 +53,7 @@ pub overflow_add-n-2 : goal.overflow_add-n-2
 overflow_add-n-2 c = omega arith
 
 pub put_link-requires-2 : goal.put_link-requires-2
-put_link-requires-2 c =  -- CHECK split ['a_in_bounds', 'x_bound']
-    omega arith
+put_link-requires-2 c = omega arith
 
 pub overflow_add-n-3 : goal.overflow_add-n-3
 overflow_add-n-3 c = omega arith
@@ -71,12 +68,10 @@ pub overflow_add-np-2 : goal.overflow_add-np-2
 overflow_add-np-2 c = omega arith
 
 pub put_link-requires-3 : goal.put_link-requires-3
-put_link-requires-3 c =  -- CHECK split ['a_in_bounds', 'x_bound']
-    omega arith
+put_link-requires-3 c = omega arith
 
 pub put_link-requires-4 : goal.put_link-requires-4
-put_link-requires-4 c =  -- CHECK split ['a_in_bounds', 'x_bound']
-    omega arith
+put_link-requires-4 c = omega arith
 
 pub overflow_mul-np-2 : goal.overflow_mul-np-2
 overflow_mul-np-2 c = omega arith
@@ -85,8 +80,7 @@ pub overflow_add-np-3 : goal.overflow_add-np-3
 overflow_add-np-3 c = omega arith
 
 pub put_link-requires-5 : goal.put_link-requires-5
-put_link-requires-5 c =  -- CHECK split ['a_in_bounds', 'x_bound']
-    omega arith
+put_link-requires-5 c = omega arith
 
 pub returns : goal.returns
 returns c =

@@ -22,8 +22,7 @@ pub overflow_add-p : goal.overflow_add-p
 overflow_add-p c = omega arith
 
 pub put_link-requires : goal.put_link-requires
-put_link-requires c =  -- CHECK split ['a_in_bounds', 'x_bound']
-    omega arith
+put_link-requires c = omega arith
 
 pub overflow_add-s : goal.overflow_add-s
 overflow_add-s c = omega arith
@@ -38,8 +37,7 @@ pub overflow_add-base-4 : goal.overflow_add-base-4
 overflow_add-base-4 c = omega arith
 
 pub put_spacer-requires : goal.put_spacer-requires
-put_spacer-requires c =  -- CHECK split ['a_in_bounds', 'm_bound']
-    omega arith
+put_spacer-requires c = omega arith
 
 pub overflow_mul-s-2 : goal.overflow_mul-s-2
 overflow_mul-s-2 c = omega arith
@@ -54,8 +52,7 @@ pub overflow_add-p-2 : goal.overflow_add-p-2
 overflow_add-p-2 c = omega arith
 
 pub put_link-requires-2 : goal.put_link-requires-2
-put_link-requires-2 c =  -- CHECK split ['a_in_bounds', 'x_bound']
-    omega arith
+put_link-requires-2 c = omega arith
 
 pub overflow_mul-s-3 : goal.overflow_mul-s-3
 overflow_mul-s-3 c = omega arith
@@ -67,8 +64,7 @@ pub overflow_add-base-8 : goal.overflow_add-base-8
 overflow_add-base-8 c = omega arith
 
 pub put_link-requires-3 : goal.put_link-requires-3
-put_link-requires-3 c =  -- CHECK split ['a_in_bounds', 'x_bound']
-    omega arith
+put_link-requires-3 c = omega arith
 
 pub overflow_mul-s-4 : goal.overflow_mul-s-4
 overflow_mul-s-4 c = omega arith
@@ -80,8 +76,7 @@ pub overflow_add-base-10 : goal.overflow_add-base-10
 overflow_add-base-10 c = omega arith
 
 pub put_link-requires-4 : goal.put_link-requires-4
-put_link-requires-4 c =  -- CHECK split ['a_in_bounds', 'x_bound']
-    omega arith
+put_link-requires-4 c = omega arith
 
 pub returns : goal.returns
 unfolding end_option close

@@ -14,8 +14,7 @@ pub overflow_add-n-in-loop-i : goal.overflow_add-n-in-loop-i
 overflow_add-n-in-loop-i c = omega arith
 
 pub put_node-requires : goal.put_node-requires
-put_node-requires c =  -- CHECK split ['q_in_bounds', 'item_bound']
-    omega arith
+put_node-requires c = omega arith
 
 pub overflow_add-i : goal.overflow_add-i
 overflow_add-i c = omega arith
@@ -34,8 +33,7 @@ pub overflow_add-n-2 : goal.overflow_add-n-2
 overflow_add-n-2 c = omega arith
 
 pub put_node-requires-2 : goal.put_node-requires-2
-put_node-requires-2 c =  -- CHECK split ['q_in_bounds', 'item_bound']
-    omega arith
+put_node-requires-2 c = omega arith
 
 pub returns : goal.returns
 returns c =

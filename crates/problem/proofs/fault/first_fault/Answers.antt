@@ -8,5 +8,4 @@ pub options_fault-requires : goal.options_fault-requires
 options_fault-requires c = record { whole = whole_options c.args.problem.now c.args.s c.requires.measured; n_in_bounds = omega arith; older = older_later 3 (omega arith) c.clear.ensures }
 
 pub returns : goal.returns
-returns c =
-    c.options_fault.ensures ∙ sym (fault_is c.args.problem.now c.args.s c.requires.measured)
+returns c = c.options_fault.ensures ∙ sym (fault_is c.args.problem.now c.args.s c.requires.measured)
