@@ -1,5 +1,4 @@
 use mathlib.Core.Path.{sym, ◌∙◌}
-use native.Mathlib.Omega.{arith}
 use Rattle.text.proofs.Barring.{look_start, look_found, look_turn, look_end}
 use Rattle.text.proofs.items.bar_at.Goals as goal
 

@@ -1,10 +1,6 @@
 use mathlib.Core.Path.{sym, ◌∙◌}
-use native.Mathlib.Omega.{arith}
-use Rattle.text.proofs.Placing.{find_start, find_turn, find_hit, find_end}
+use Rattle.text.proofs.Placing.{find_turn, find_hit, find_end}
 use Rattle.text.proofs.items.find_name.Goals as goal
-
-pub loop-at-init : goal.loop-at-init
-loop-at-init c = find_start c.args.line.now c.args.class c.args.name.now c.args.from
 
 pub returns-in-At : goal.returns-in-At
 returns-in-At c =

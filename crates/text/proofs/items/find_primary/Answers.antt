@@ -3,9 +3,6 @@ use Rattle.rules.specs.Text.{tokens}
 use Rattle.text.proofs.Placing.{primary_first, primary_second, low_at, low_past, low_after}
 use Rattle.text.proofs.items.find_primary.Goals as goal
 
-pub find_name-requires-in-Past : goal.find_name-requires-in-Past
-find_name-requires-in-Past c = record { short = c.requires; from_bound = (let h = low_past c.in-Past.is c.find_name.ensures.low_place in omega (arith, c.requires)) }
-
 pub returns-in-At : goal.returns-in-At
 returns-in-At c = record { value = primary_first c.args.front c.args.name.now (tokens c.args.primary.now) c.first_class.ensures c.find_name.ensures.value c.in-At.is; low_place = (let h = low_at c.in-At.is c.find_name.ensures.low_place in omega (arith, c.requires)) }
 

@@ -1,23 +1,15 @@
 use native.Mathlib.Omega.{arith}
-use Rattle.rules.specs.Text.{lines}
-use Rattle.text.specs.Read.{known, options_words}
+use Rattle.text.specs.Read.{known}
 use Rattle.text.proofs.Lining.{words_end, options_room, options_turn}
 use Rattle.text.proofs.Pieces.{part_long}
-use Rattle.text.proofs.Writing.{put_start, put_end}
+use Rattle.text.proofs.Writing.{put_end}
 use Rattle.text.proofs.lines.write_options.Goals as goal
-
-pub loop-at-init : goal.loop-at-init
-loop-at-init c =
-    record { put = put_start (options_words (known c.args.front c.args.primary.now c.args.secondary.now) (lines c.args.rest.now)) c.args.words.now c.args.place }
 
 pub write_line-next-requires : goal.write_line-next-requires
 write_line-next-requires c = record { parts = (c.requires.parts.0, (let l = part_long c.args.rest.now c.loop-at.at c.scan-end.result c.scan-end.ensures.low c.scan-end.ensures.high in omega (arith, c.requires.parts.1))); line_in_bounds = options_room c.loop-at.invariant c.scan-end.ensures c.requires.rest_in_bounds }
 
 pub loop-at-preserved : goal.loop-at-preserved
 loop-at-preserved c = options_turn c.loop-at.invariant c.scan-end.ensures c.write_line-next.ensures.value c.write_line-next.ensures.words_after
-
-pub shape_of-words : goal.shape_of-words
-shape_of-words c = c.loop-at.invariant.put.long
 
 pub returns : goal.returns
 returns c =

@@ -6,9 +6,6 @@ use Rattle.text.proofs.options.entry.Goals as goal
 pub returns-then-colour-eq0 : goal.returns-then-colour-eq0
 returns-then-colour-eq0 c = record { value = entry_plain c.args.front c.args.primary.now c.args.secondary.now c.args.name.now c.args.colour c.find_primary.ensures.value c.in-At.is c.if-colour-eq0.true; low_entry = ((let h = low_at c.in-At.is c.find_primary.ensures.low_place in omega arith), omega arith) }
 
-pub find_name-requires : goal.find_name-requires
-find_name-requires c = record { short = c.requires.parts.1; from_bound = low_past c.in-Past.is c.find_primary.ensures.low_place }
-
 pub returns-else-colour-eq0 : goal.returns-else-colour-eq0
 returns-else-colour-eq0 c = record { value = entry_coloured c.args.front c.args.primary.now c.args.secondary.now c.args.name.now c.args.colour c.find_primary.ensures.value c.in-At.is c.if-colour-eq0.false; low_entry = tt }
 

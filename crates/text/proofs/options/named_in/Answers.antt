@@ -1,10 +1,5 @@
-use mathlib.Core.Path.{refl}
-use native.Mathlib.Omega.{arith}
 use Rattle.text.proofs.Entering.{named_found, named_turn, named_end}
 use Rattle.text.proofs.options.named_in.Goals as goal
-
-pub loop-at-init : goal.loop-at-init
-loop-at-init c = record { same = refl }
 
 pub returns-then-has_name : goal.returns-then-has_name
 returns-then-has_name c = named_found c.loop-at.invariant c.scan-end.ensures c.has_name.ensures c.if-has_name.true

@@ -1,13 +1,5 @@
-use mathlib.Core.Path.{refl}
-use native.Mathlib.Omega.{arith}
 use Rattle.text.proofs.Entering.{tried_fault, tried_turn, tried_end}
 use Rattle.text.proofs.options.option_fault.Goals as goal
-
-pub loop-at-init : goal.loop-at-init
-loop-at-init c = record { same = refl }
-
-pub token_fault-requires : goal.token_fault-requires
-token_fault-requires c = c.requires
 
 pub returns-then-token_fault : goal.returns-then-token_fault
 returns-then-token_fault c = tried_fault c.loop-at.invariant c.scan-end.ensures c.token_fault.ensures c.if-token_fault.true

@@ -1,5 +1,4 @@
 use mathlib.Core.Path.{sym, ◌∙◌}
-use lib.Seq.{length-take-le}
 use Rattle.rules.specs.Text.{tokens}
 use Rattle.text.specs.Read.{known}
 use Rattle.text.proofs.Entering.{wrong_empty, wrong_entry, wrong_again}
@@ -12,9 +11,6 @@ returns-then-token-eq0 c =
 pub returns-then-not-is_entry : goal.returns-then-not-is_entry
 returns-then-not-is_entry c =
     wrong_entry (known c.args.front c.args.primary.now c.args.secondary.now) c.args.token.now (tokens c.args.rest.now) c.if-token-eq0.false (sym c.is_entry.ensures ∙ c.if-not-is_entry.true)
-
-pub slice_bounds-named_in-end : goal.slice_bounds-named_in-end
-slice_bounds-named_in-end c = sym (length-take-le c.scan-name_end.result c.args.token.now c.scan-name_end.ensures.high)
 
 pub returns : goal.returns
 returns c =

@@ -1,22 +1,12 @@
-use native.Mathlib.Omega.{arith}
-use Rattle.rules.specs.Text.{tokens}
-use Rattle.text.specs.Entries.{entries_words}
 use Rattle.text.specs.Read.{known}
-use Rattle.text.proofs.Writing.{put_start, put_end, words_end, entries_room, entries_turn}
+use Rattle.text.proofs.Writing.{put_end, words_end, entries_room, entries_turn}
 use Rattle.text.proofs.options.write_entries.Goals as goal
-
-pub loop-at-init : goal.loop-at-init
-loop-at-init c =
-    record { put = put_start (entries_words (known c.args.front c.args.primary.now c.args.secondary.now) (tokens c.args.line.now)) c.args.words.now c.args.place }
 
 pub write_entry-next-requires : goal.write_entry-next-requires
 write_entry-next-requires c = record { parts = c.requires.parts; token_in_bounds = entries_room c.loop-at.invariant c.scan-end.ensures c.requires.line_in_bounds }
 
 pub loop-at-preserved : goal.loop-at-preserved
 loop-at-preserved c = entries_turn c.loop-at.invariant c.scan-end.ensures c.write_entry-next.ensures.value c.write_entry-next.ensures.words_after
-
-pub shape_of-words : goal.shape_of-words
-shape_of-words c = c.loop-at.invariant.put.long
 
 pub returns : goal.returns
 returns c =

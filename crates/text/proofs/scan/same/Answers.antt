@@ -1,13 +1,8 @@
-use mathlib.Core.Path.{refl}
-use native.Mathlib.Omega.{arith}
 use Rattle.text.proofs.Bytes.{other_length, differ, agree, compared}
 use Rattle.text.proofs.scan.same.Goals as goal
 
 pub returns-then-a-b : goal.returns-then-a-b
 returns-then-a-b c = other_length _ _ c.if-a-b.true
-
-pub loop-i-init : goal.loop-i-init
-loop-i-init c = record { long = c.if-a-b.false; high = omega arith; same = refl }
 
 pub returns-then-a-i : goal.returns-then-a-i
 returns-then-a-i c = differ c.loop-i.invariant c.loop-i-test.true c.if-a-i.true

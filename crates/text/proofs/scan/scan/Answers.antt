@@ -1,17 +1,10 @@
 use mathlib.Core.Path.{sym, ◌∙◌}
-use native.Mathlib.Omega.{arith}
 use Rattle.text.specs.Scan.{stops_at}
-use Rattle.text.proofs.Bytes.{scan_start, scan_turn, scan_found, scan_end}
+use Rattle.text.proofs.Bytes.{scan_start, scan_turn}
 use Rattle.text.proofs.scan.scan.Goals as goal
 
 pub loop-i-init : goal.loop-i-init
 loop-i-init c = scan_start (stops_at c.args.stop) c.args.s.now c.args.from c.requires
 
-pub returns-then-stops : goal.returns-then-stops
-returns-then-stops c = scan_found c.loop-i.invariant (sym c.stops.ensures ∙ c.if-stops.true)
-
 pub loop-i-preserved : goal.loop-i-preserved
 loop-i-preserved c = scan_turn c.loop-i.invariant c.loop-i-test.true (sym c.stops.ensures ∙ c.if-stops.false)
-
-pub returns : goal.returns
-returns c = scan_end c.loop-i.invariant c.loop-i-test.false
