@@ -56,6 +56,7 @@ enum Turned {
 
 // Writes a page, and fills the next.
 fn turn(
+    rt: &HostRuntime,
     text: &[u8],
     t: &mut [i32],
     path: &mut [i32],
@@ -74,7 +75,7 @@ fn turn(
         Coming P n all t.old path.old profile.old at →
         TurnedAs P n all t.new path.new profile.new out.new result }
 {
-    put_page(text, out, used, sent);
+    put_page(rt, text, out, used, sent);
     if *sent == LOST {
         return Turned::Lost;
     }
@@ -86,6 +87,7 @@ const MOST_BYTES: u64 = 9223372036854775808;
 
 // Prints page after page.
 fn show(
+    rt: &HostRuntime,
     text: &[u8],
     problem: &[i32],
     s: Sizes,
@@ -107,11 +109,11 @@ fn show(
     while *sent < MOST_BYTES {
         match page {
             Page::All(last) => {
-                put_page(text, out, last, sent);
+                put_page(rt, text, out, last, sent);
                 return;
             }
             Page::More(at, used) => {
-                let turned = turn(text, t, path, profile, n, at, out, used, sent);
+                let turned = turn(rt, text, t, path, profile, n, at, out, used, sent);
                 let Turned::To(next) = turned else {
                     return;
                 };
@@ -122,7 +124,7 @@ fn show(
 }
 
 // Prints every solution of an accepted problem.
-fn solve(text: &[u8], problem: &[i32], s: Sizes, out: &mut [u8], sent: &mut u64)
+fn solve(rt: &HostRuntime, text: &[u8], problem: &[i32], s: Sizes, out: &mut [u8], sent: &mut u64)
     requires text_value { opened text.now ≡ accepted problem.now }
     requires accepted { Accepted door_limits 1 (λ s. true) problem.now s }
     requires out_len { length out.old ≡ 65536 }
@@ -135,6 +137,7 @@ fn solve(text: &[u8], problem: &[i32], s: Sizes, out: &mut [u8], sent: &mut u64)
     let words = table_words(s);
     let np = s.np;
     show(
+        rt,
         text,
         problem,
         s,
@@ -147,7 +150,7 @@ fn solve(text: &[u8], problem: &[i32], s: Sizes, out: &mut [u8], sent: &mut u64)
 }
 
 // Prints what the rules say of a text.
-fn answer(text: &[u8], sent: &mut u64)
+fn answer(rt: &HostRuntime, text: &[u8], sent: &mut u64)
     requires { sent.old ≡ 0 }
     ensures { Ended text.now sent.new }
 {
@@ -156,22 +159,22 @@ fn answer(text: &[u8], sent: &mut u64)
     match open(text, &mut words) {
         Opened::Refused(number) => {
             let used = put_refused(&mut out, number);
-            put_page(text, &out, used, sent);
+            put_page(rt, text, &out, used, sent);
         }
         Opened::Faulty(line) => {
             let used = put_faulty(&mut out, 13, line);
-            put_page(text, &out, used, sent);
+            put_page(rt, text, &out, used, sent);
         }
-        Opened::Accepted(length, s) => solve(text, &words[..length], s, &mut out, sent),
+        Opened::Accepted(length, s) => solve(rt, text, &words[..length], s, &mut out, sent),
     }
 }
 
-fn main() {
+fn main(rt: HostRuntime) {
     let mut input = [0u8; 65537];
-    let count = read_text(&mut input);
+    let count = read_text(&rt, &mut input);
     let mut sent = 0;
-    answer(&input[..count], &mut sent);
+    answer(&rt, &input[..count], &mut sent);
     if MOST_BYTES <= sent {
-        say_unwritten();
+        say_unwritten(&rt);
     }
 }

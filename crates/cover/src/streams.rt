@@ -5,7 +5,7 @@ ghost use Rattle.io.specs.Counts.{IsPrefixLen};
 ghost use Rattle.knuth.specs.Written.{Due, Moved};
 ghost use Rattle.cover.specs.Streams.{GotWithin};
 
-use libc::{STDERR_FILENO, STDIN_FILENO, STDOUT_FILENO};
+use std::io::Read;
 
 // How many bytes a read brought, none where the input ends; or it failed.
 #[derive(Clone, Copy)]
@@ -14,25 +14,24 @@ enum Got {
     Failed,
 }
 
-fn read_some(buf: &mut [u8]) -> Got
+fn read_some(rt: &HostRuntime, buf: &mut [u8]) -> Got
     ensures { GotWithin (length buf.new) result }
 {
-    let got = libc::read(STDIN_FILENO, buf);
-    if got < 0 {
-        return Got::Failed;
+    match rt.stdin().read(buf) {
+        Ok(count) => Got::Bytes(count),
+        Err(_) => Got::Failed,
     }
-    Got::Bytes(io::count(got, buf))
 }
 
 // Reads until the input ends or the buffer is full, and answers how many bytes came. None did if a read failed: the
 // front of a text is not the text.
-pub fn read_text(buf: &mut [u8]) -> usize
+pub fn read_text(rt: &HostRuntime, buf: &mut [u8]) -> usize
     ensures { IsPrefixLen result buf.new }
 {
     let mut done = 0;
     while done < buf.len() {
-        let Got::Bytes(more) = read_some(&mut buf[done..]) else {
-            io::write_all(STDERR_FILENO, b"cover: the input could not be read\n");
+        let Got::Bytes(more) = read_some(rt, &mut buf[done..]) else {
+            let _ = rt.eprintln("cover: the input could not be read");
             return 0;
         };
         if more == 0 {
@@ -49,12 +48,12 @@ pub const LOST: u64 = 18446744073709551615;
 // Writes the first `used` bytes of the buffer, which are those of what is printed of the text from place `sent` on, and
 // moves `sent` past them, or to LOST if the write fails. Nothing else writes to standard output, and nothing else moves
 // `sent`.
-pub fn put_page(text: &[u8], out: &[u8], used: usize, sent: &mut u64)
+pub fn put_page(rt: &HostRuntime, text: &[u8], out: &[u8], used: usize, sent: &mut u64)
     requires due { Due (printed text.now) sent.old out.now used }
     requires used_bound { sent.old + used < 18446744073709551616 }
     ensures { Moved sent.old used sent.new }
 {
-    if io::write_all(STDOUT_FILENO, &out[..used]) {
+    if rt.write_all(&out[..used]).is_ok() {
         *sent += used as u64;
     } else {
         *sent = LOST;
@@ -62,6 +61,6 @@ pub fn put_page(text: &[u8], out: &[u8], used: usize, sent: &mut u64)
 }
 
 // Says that the output could not be written.
-pub fn say_unwritten() {
-    io::write_all(STDERR_FILENO, b"cover: the output could not be written\n");
+pub fn say_unwritten(rt: &HostRuntime) {
+    let _ = rt.eprintln("cover: the output could not be written");
 }

@@ -133,7 +133,8 @@ pub fn write_unsigned(value: u64, out: &mut [u8]) -> usize
 {
     let mut text = [0u8; 20];
     let count = io::decimal(value, &mut text);
-    bytes::copy(&text[..count], out)
+    out[..count].copy_from_slice(&text[..count]);
+    count
 }
 
 // Writes the word at a place of the list over the front of `out`, and answers how many bytes it takes.

@@ -4,7 +4,6 @@
 
 ghost use Rattle.std.specs.Prelude.{length, ◌≡◌, ◌<◌};
 
-use libc::STDOUT_FILENO;
 use rules::{NextAnswer, SetUpAnswer, State};
 
 const RUNS: usize = 3;
@@ -60,48 +59,47 @@ fn put_problem(problem: &mut [i32])
     }
 }
 
-fn show(text: &[u8], number: u8) {
-    io::write_all(STDOUT_FILENO, text);
-    io::print_decimal(STDOUT_FILENO, number as u64);
+fn show(rt: &HostRuntime, text: &str, number: u8) {
+    let _ = print!(rt; "{text}{number}");
 }
 
-fn show_placement(option: usize)
+fn show_placement(rt: &HostRuntime, option: usize)
     requires { option < 6 }
 {
     let placement = PLACEMENTS[option];
-    show(b"run ", placement[0]);
-    show(b" at minute ", placement[1]);
-    show(b" on machine ", placement[2]);
-    show(b", runtime ", placement[3]);
-    io::write_all(STDOUT_FILENO, b"\n");
+    show(rt, "run ", placement[0]);
+    show(rt, " at minute ", placement[1]);
+    show(rt, " on machine ", placement[2]);
+    show(rt, ", runtime ", placement[3]);
+    let _ = rt.println("");
 }
 
 // A solution's placements, in the order in which they were chosen. Each word is an option's number; the test says so to the proof.
-fn show_solution(chosen: &[i32]) {
+fn show_solution(rt: &HostRuntime, chosen: &[i32]) {
     let mut i = 0;
     while i < chosen.len() {
         if words::is_below(chosen, i, OPTIONS) {
-            show_placement(words::link_at(chosen, i));
+            show_placement(rt, words::link_at(chosen, i));
         }
         i += 1;
     }
 }
 
-fn show_title(night: u8) {
-    show(b"night ", night);
-    io::write_all(STDOUT_FILENO, b"\n");
+fn show_title(rt: &HostRuntime, night: u8) {
+    let _ = println!(rt; "night {night}");
 }
 
-fn show_end(answer: NextAnswer) {
+fn show_end(rt: &HostRuntime, answer: NextAnswer) {
     if let NextAnswer::Exhausted(_, _) = answer {
-        io::write_all(STDOUT_FILENO, b"no more\n");
+        let _ = rt.println("no more");
     } else {
-        io::write_all(STDOUT_FILENO, b"stopped\n");
+        let _ = rt.println("stopped");
     }
 }
 
 // Shows the solutions one by one. A proved loop has to end: a hundred are more than this night has.
 fn show_nights(
+    rt: &HostRuntime,
     problem: &[i32],
     table: &mut [i32],
     spare: &mut [i32],
@@ -115,17 +113,17 @@ fn show_nights(
     while night < 100 {
         let answer = calls::next(problem, table, spare, path, profile, found, state, 1000);
         let NextAnswer::Solution(after, _) = answer else {
-            show_end(answer);
+            show_end(rt, answer);
             return;
         };
         night += 1;
-        show_title(night);
-        show_solution(calls::report(found, after));
+        show_title(rt, night);
+        show_solution(rt, calls::report(found, after));
         state = after;
     }
 }
 
-fn main() {
+fn main(rt: HostRuntime) {
     let mut problem = [0i32; 33];
     let mut table = [0i32; 822];
     let mut spare = [0i32; 822];
@@ -136,6 +134,7 @@ fn main() {
     match calls::set_up(&problem, &mut table, &mut path, &mut profile) {
         SetUpAnswer::SetUp(ready) => {
             show_nights(
+                &rt,
                 &problem,
                 &mut table,
                 &mut spare,
@@ -146,9 +145,7 @@ fn main() {
             );
         }
         SetUpAnswer::Refused(_, number) => {
-            io::write_all(STDOUT_FILENO, b"refused ");
-            io::print_decimal(STDOUT_FILENO, number as u64);
-            io::write_all(STDOUT_FILENO, b"\n");
+            let _ = println!(rt; "refused {number}");
         }
     }
 }

@@ -81,21 +81,22 @@ fn call(
 }
 
 // `ANSWER VISITS PHASE DEPTH UPDATES`
-fn put_said(out: &mut [u8], used: usize, said: Said) -> usize
+fn put_said(rt: &HostRuntime, out: &mut [u8], used: usize, said: Said) -> usize
     requires { Buffer out.old used }
     ensures { Buffer out.new result }
 {
     let state = said.state;
     let phase = state.phase;
-    let end = put_number(out, used, said.number as u64, b' ');
-    let end = put_number(out, end, said.visits, b' ');
-    let end = put_number(out, end, phase_number(phase), b' ');
-    let end = put_number(out, end, state.depth as u64, b' ');
-    put_number(out, end, state.updates, b'\n')
+    let end = put_number(rt, out, used, said.number as u64, b' ');
+    let end = put_number(rt, out, end, said.visits, b' ');
+    let end = put_number(rt, out, end, phase_number(phase), b' ');
+    let end = put_number(rt, out, end, state.depth as u64, b' ');
+    put_number(rt, out, end, state.updates, b'\n')
 }
 
 // A line for each list.
 fn put_lists(
+    rt: &HostRuntime,
     out: &mut [u8],
     used: usize,
     table: &[i32],
@@ -107,15 +108,16 @@ fn put_lists(
     requires { Buffer out.old used }
     ensures { Buffer out.new result }
 {
-    let end = put_words(out, used, table);
-    let end = put_words(out, end, spare);
-    let end = put_words(out, end, path);
-    let end = put_counts(out, end, profile);
-    put_words(out, end, found)
+    let end = put_words(rt, out, used, table);
+    let end = put_words(rt, out, end, spare);
+    let end = put_words(rt, out, end, path);
+    let end = put_counts(rt, out, end, profile);
+    put_words(rt, out, end, found)
 }
 
 // A line on the lists as lent.
 pub fn run(
+    rt: &HostRuntime,
     line: &[u8],
     problem: &[i32],
     table: &mut [i32],
@@ -137,14 +139,14 @@ pub fn run(
         return Done::Bad;
     }
     if only_letter(line) == b'r' {
-        let end = put_words(out, used, calls::report(found, state));
+        let end = put_words(rt, out, used, calls::report(found, state));
         return Done::Went(state, end);
     }
     let Called::Said(said) = call(line, problem, table, spare, path, profile, found, state) else {
         return Done::Bad;
     };
     let after = said.state;
-    let end = put_said(out, used, said);
-    let end = put_lists(out, end, table, spare, path, profile, found);
+    let end = put_said(rt, out, used, said);
+    let end = put_lists(rt, out, end, table, spare, path, profile, found);
     Done::Went(after, end)
 }

@@ -1,8 +1,7 @@
 // A line's operands: decimal numbers, each after one space.
-ghost use Rattle.std.specs.Prelude.{◌<◌, length};
+ghost use Rattle.std.specs.Prelude.{ℕ, ◌≡◌, ◌≢◌, ◌<◌, ◌≤◌, length, get_or};
 ghost use Rattle.replay.specs.Bounds.{AtMost, GoesOn};
 
-use bytes::scan::find;
 use decimal::Number;
 
 // A number, and where the line goes on.
@@ -19,6 +18,24 @@ pub enum Place {
     Bad,
 }
 
+// The first place from `from` on that holds the byte, or the end.
+pub fn find(bytes: &[u8], from: usize, byte: u8) -> usize
+    requires { from ≤ length bytes.now }
+    ensures from_on { from ≤ result }
+    ensures in_bounds { result ≤ length bytes.now }
+    ensures none_before { (k : ℕ) → from ≤ k → k < result → get_or bytes.now k 0 ≢ byte }
+    ensures found { result < length bytes.now → get_or bytes.now result 0 ≡ byte }
+{
+    let mut at = from;
+    while at < bytes.len() {
+        if bytes[at] == byte {
+            return at;
+        }
+        at += 1;
+    }
+    at
+}
+
 // The number, at most `most`, after the space at `at`.
 pub fn number_at(line: &[u8], at: usize, most: u64) -> Operand
     ensures { AtMost most result }
@@ -30,7 +47,7 @@ pub fn number_at(line: &[u8], at: usize, most: u64) -> Operand
         return Operand::Bad;
     }
     let start = at + 1;
-    let end = find(line, start, line.len(), b' ');
+    let end = find(line, start, b' ');
     match decimal::read_unsigned(&line[start..end], most) {
         Number::Is(value) => Operand::Is(value, end),
         Number::Bad => Operand::Bad,
@@ -49,7 +66,7 @@ pub fn word_at(line: &[u8], at: usize, list: &mut [i32], place: usize) -> Place
         return Place::Bad;
     }
     let start = at + 1;
-    let end = find(line, start, line.len(), b' ');
+    let end = find(line, start, b' ');
     if decimal::read_word(&line[start..end], list, place) {
         return Place::At(end);
     }

@@ -11,12 +11,12 @@ mod settings;
 ghost use Rattle.std.specs.Prelude.{◌≤◌, length, ◌≡◌};
 ghost use Rattle.replay.specs.Bounds.{HeldWithin, Lists, StepWithin};
 
-use bytes::scan::find;
 use commands::Done;
 use held::{Held, Lengths, Step};
-use libc::{STDIN_FILENO, STDOUT_FILENO};
+use line::find;
 use rules::{Phase, State};
 use settings::{Count, LengthsRead, StateRead};
+use std::io::Read;
 
 // Nothing lent, and a blank state.
 fn at_first() -> Held
@@ -88,6 +88,7 @@ fn take_lengths(
 
 // A line on the lists as lent: of each the front part.
 fn on_lent(
+    rt: &HostRuntime,
     line: &[u8],
     problem: &[i32],
     table: &mut [i32],
@@ -109,6 +110,7 @@ fn on_lent(
     let profile_length = lengths.profile;
     let found_length = lengths.found;
     let Done::Went(state, used) = commands::run(
+        rt,
         line,
         &problem[..problem_length],
         &mut table[..table_length],
@@ -128,6 +130,7 @@ fn on_lent(
 }
 
 fn step(
+    rt: &HostRuntime,
     line: &[u8],
     problem: &mut [i32],
     table: &mut [i32],
@@ -151,11 +154,14 @@ fn step(
     if letter == b's' {
         return take_state(line, held);
     }
-    on_lent(line, problem, table, spare, path, profile, found, out, held)
+    on_lent(
+        rt, line, problem, table, spare, path, profile, found, out, held,
+    )
 }
 
 // Runs every line, up to the first that is no command, and answers how many bytes of output wait.
 fn run(
+    rt: &HostRuntime,
     input: &[u8],
     problem: &mut [i32],
     table: &mut [i32],
@@ -172,14 +178,16 @@ fn run(
     let mut number: u64 = 1;
     let mut from = 0;
     while from < input.len() {
-        let end = find(input, from, input.len(), b'\n');
+        let end = find(input, from, b'\n');
         if end == input.len() {
-            return output::put_bad(out, held.used, number);
+            return output::put_bad(rt, out, held.used, number);
         }
         let line = &input[from..end];
-        match step(line, problem, table, spare, path, profile, found, out, held) {
+        match step(
+            rt, line, problem, table, spare, path, profile, found, out, held,
+        ) {
             Step::Went(after) => held = after,
-            Step::Bad => return output::put_bad(out, held.used, number),
+            Step::Bad => return output::put_bad(rt, out, held.used, number),
         }
         number += 1;
         from = end + 1;
@@ -187,11 +195,29 @@ fn run(
     held.used
 }
 
-fn main() {
+// Reads until the list is full, the input ends or a read fails, and answers how many bytes came.
+fn read_full(rt: &HostRuntime, buf: &mut [u8]) -> usize
+    ensures { result ≤ length buf.new }
+{
+    let mut stdin = rt.stdin();
+    let mut done = 0;
+    while done < buf.len() {
+        let Ok(more) = stdin.read(&mut buf[done..]) else {
+            return done;
+        };
+        if more == 0 {
+            return done;
+        }
+        done += more;
+    }
+    done
+}
+
+fn main(rt: HostRuntime) {
     let mut input = [0u8; 65537];
-    let count = io::read_full(STDIN_FILENO, &mut input);
+    let count = read_full(&rt, &mut input);
     if count > 65536 {
-        io::write_all(STDOUT_FILENO, b"bad 0\n");
+        let _ = rt.println("bad 0");
         return;
     }
     let mut problem = [0i32; 4096];
@@ -200,8 +226,9 @@ fn main() {
     let mut path = [0i32; 256];
     let mut profile = [0u64; 256];
     let mut found = [0i32; 256];
-    let mut out = io::large_buffer();
+    let mut out = [0u8; 65536];
     let used = run(
+        &rt,
         &input[..count],
         &mut problem,
         &mut table,
@@ -211,5 +238,5 @@ fn main() {
         &mut found,
         &mut out,
     );
-    io::write_all(STDOUT_FILENO, &out[..used]);
+    let _ = rt.write_all(&out[..used]);
 }
