@@ -16,50 +16,17 @@ use Rattle.search.proofs.Replaying.{ways, bad_word, none_open, not_listed, liste
 use Rattle.search.specs.Replays.{Following}
 use Rattle.search.proofs.point.follow.Goals as goal
 
-abbrev Here : goal.Start → Problem → List Level → Type 0
-Here s P at = Following P s.args.n at s.args.spare.now s.args.path.now s.args.l
-
-item_is : (z : goal.After-choose-i) {P : Problem} {s : List Level} → Here z.before.before.before.before P s → z.choose-i.result ≡ header (pick P (chosen s))
-item_is z F = z.choose-i.ensures _ _ F.at
-
-picked : (e : goal.Else-i-eq0) {P : Problem} {s : List Level} → Here e.before.before.before.before.before P s → (j : ℕ) × Picked P e.args.n s j e.args.spare.now e.choose-i.result
-picked e {P} {s} F =
-    let k = taken (pick P (chosen s)) (item_is e.before F) e.if-i-eq0.false in
-    (k.0, record { at = F.at; picks = k.1; header_is = k.2 })
-
-is_in : (e : goal.Else-not-is_listed) {P : Problem} {s : List Level} (F : Here e.before.before.before.before.before.before.before.before.before P s) → got (level_of e.link_at-q.result (ways P s (picked e.before.before.before.before F).0)) ≡ true
-is_in e F = let K = picked e.before.before.before.before F in sym (e.is_listed.ensures _ _ _ K.1) ∙ not-false e.is_listed.result e.if-not-is_listed.false
-
-pub is_natural-requires : goal.is_natural-requires
-is_natural-requires c = c.requires.2.inside
-
-pub returns-then-not-is_natural : goal.returns-then-not-is_natural
-returns-then-not-is_natural c = λ P s F. record { meant = bad_word P s (word c.args.path.now c.args.l) (sym c.is_natural.ensures ∙ not-true c.is_natural.result c.if-not-is_natural.true); at = F.at }
-
-pub choose-i-requires : goal.choose-i-requires
-choose-i-requires c = (_, _, c.requires.2.at)
-
-pub returns-then-i-eq0 : goal.returns-then-i-eq0
-returns-then-i-eq0 c = λ P s F.
-    record { meant = none_open P s (word c.args.path.now c.args.l) (no_item (pick P (chosen s)) (item_is c.before F) c.if-i-eq0.true); at = F.at }
-
-pub link_at-q-requires : goal.link_at-q-requires
-link_at-q-requires c = record { a_in_bounds = c.requires.2.inside; natural = natural (sym c.is_natural.ensures ∙ not-false c.is_natural.result c.if-not-is_natural.false) }
-
-pub is_listed-requires : goal.is_listed-requires
-is_listed-requires c = (_, _, _, (picked c.before c.requires.2).1)
-
-pub returns-then-not-is_listed : goal.returns-then-not-is_listed
-returns-then-not-is_listed c = λ P s F.
-    let K = picked c.before.before.before F in
-    record { meant = not_listed P s c.link_at-q.ensures K.1 (sym (c.is_listed.ensures P s K.0 K.1) ∙ not-true c.is_listed.result c.if-not-is_listed.true); at = F.at }
-
 pub try_item-requires : goal.try_item-requires
-try_item-requires c = 
-    (_, _, _, (listed _ _ c.link_at-q.ensures (picked c.before.before.before.before c.requires.2).1 (is_in c.before c.requires.2)).2)
+try_item-requires c =
+    let F = c.requires.2 in
+    let k = taken _ (c.choose-i.ensures _ _ F.at) c.if-i-eq0.false in
+    let K : Picked c.requires.0 c.args.n c.requires.1 k.0 c.args.spare.now c.choose-i.result = record { at = F.at; picks = k.1; header_is = k.2 } in
+    (_, _, _, (listed _ _ c.link_at-q.ensures K (sym (c.is_listed.ensures _ _ _ K) ∙ c.if-not-is_listed.false)).2)
 
 pub returns : goal.returns
-returns c = 
+returns c =
     λ P s F.
-    let K = (picked c.before.before.before.before.before.before F).1 in
-    stepped P s c.link_at-q.ensures K (is_in c.before.before.before F) (c.try_item.ensures P _ _ (listed P s c.link_at-q.ensures K (is_in c.before.before.before F)).2).at
+    let k = taken (pick P (chosen s)) (c.choose-i.ensures P s F.at) c.if-i-eq0.false in
+    let K : Picked P c.args.n s k.0 c.args.spare.now c.choose-i.result = record { at = F.at; picks = k.1; header_is = k.2 } in
+    let I : got (level_of c.link_at-q.result (ways P s k.0)) ≡ true = sym (c.is_listed.ensures P s k.0 K) ∙ c.if-not-is_listed.false in
+    stepped P s c.link_at-q.ensures K I (c.try_item.ensures P _ _ (listed P s c.link_at-q.ensures K I).2).at

@@ -8,10 +8,6 @@ use Rattle.search.specs.Points.{Picked}
 use Rattle.search.proofs.Moving.{header_list}
 use Rattle.search.proofs.point.is_listed.Goals as goal
 
-looking : (d : goal.In-loop-p) {P : Problem} {s : List Level} {j : ℕ} → Picked P d.args.n s j d.args.t.now d.args.i
-    → Look P d.args.n s j d.args.t.now d.args.q d.loop-p.p d.loop-p.left
-looking d K = look K (d.loop-p.invariant _ _ _ K) d.loop-p-test.true
-
 pub len-left-requires : goal.len-left-requires
 len-left-requires c = (_, _, _, look_header c.requires.3)
 
@@ -22,19 +18,22 @@ pub loop-p-init : goal.loop-p-init
 loop-p-init c = λ P s j K. look_start K _ (c.dlink-p.ensures.value P _ _ _ _ (header_list K)) (c.len-left.ensures P _ _ (look_header K))
 
 pub returns-then-p-q : goal.returns-then-p-q
-returns-then-p-q c = λ P s j K. (looking c.before K).found c.if-p-q.true
+returns-then-p-q c = λ P s j K. (look K (c.loop-p.invariant P s j K) c.loop-p-test.true).found c.if-p-q.true
 
 pub overflow_sub-left : goal.overflow_sub-left
-overflow_sub-left c = omega (arith, (looking c.before c.requires.3).more)
+overflow_sub-left c = omega (arith, (look c.requires.3 (c.loop-p.invariant _ _ _ c.requires.3) c.loop-p-test.true).more)
 
 pub dlink-p-requires-in-loop-p : goal.dlink-p-requires-in-loop-p
-dlink-p-requires-in-loop-p c = (_, _, _, _, _, (looking c.before c.requires.3).in_list)
+dlink-p-requires-in-loop-p c = (_, _, _, _, _, (look c.requires.3 (c.loop-p.invariant _ _ _ c.requires.3) c.loop-p-test.true).in_list)
 
 pub loop-p-smaller : goal.loop-p-smaller
-loop-p-smaller c = omega (arith, (looking c.before.before c.requires.3).more)
+loop-p-smaller c = omega (arith, (look c.requires.3 (c.loop-p.invariant _ _ _ c.requires.3) c.loop-p-test.true).more)
 
 pub loop-p-preserved : goal.loop-p-preserved
-loop-p-preserved c = λ P s j K. let L = looking c.before.before K in L.next c.if-p-q.false (c.dlink-p-in-loop-p.ensures.value P _ _ _ _ L.in_list)
+loop-p-preserved c = λ P s j K.
+    let L = look K (c.loop-p.invariant P s j K) c.loop-p-test.true in
+    L.next c.if-p-q.false (c.dlink-p-in-loop-p.ensures.value P _ _ _ _ L.in_list)
 
 pub returns : goal.returns
 returns c = λ P s j K. look_none K (c.loop-p.invariant P s j K) c.loop-p-test.false
+

@@ -7,25 +7,14 @@ use Rattle.rules.specs.Words.{same_words}
 use Rattle.search.proofs.Testing.{same_next, same_stop, same_end}
 use Rattle.search.proofs.point.same_words.Goals as goal
 
-pub loop-k-init : goal.loop-k-init
-loop-k-init c = (omega arith, refl)
-
-pub same_at-requires : goal.same_at-requires
-same_at-requires c = record { a_in_bounds = omega arith; a_in_bounds_2 = omega arith }
-
 pub returns-then-not-same_at : goal.returns-then-not-same_at
-returns-then-not-same_at c = 
-    same_stop c.args.s.now c.args.t.now (c.requires) c.loop-k.k c.loop-k-test.true (sym c.same_at.ensures ∙ not-true _ c.if-not-same_at.true) c.loop-k.invariant.1
-
-pub overflow_add-k : goal.overflow_add-k
-overflow_add-k c = omega arith
-
-pub loop-k-smaller : goal.loop-k-smaller
-loop-k-smaller c = omega arith
+returns-then-not-same_at c =
+    same_stop c.args.s.now c.args.t.now (c.requires) c.loop-k.k c.loop-k-test.true (sym c.same_at.ensures ∙ c.if-not-same_at.true) c.loop-k.invariant.1
 
 pub loop-k-preserved : goal.loop-k-preserved
-loop-k-preserved c = 
-    (omega (arith, c.loop-k-test.true), same_next c.args.s.now c.args.t.now (c.requires) c.loop-k.k c.loop-k-test.true (sym c.same_at.ensures ∙ not-false _ c.if-not-same_at.false) c.loop-k.invariant.1)
+loop-k-preserved c =
+    (omega (arith, c.loop-k-test.true), same_next c.args.s.now c.args.t.now (c.requires) c.loop-k.k c.loop-k-test.true (sym c.same_at.ensures ∙ c.if-not-same_at.false) c.loop-k.invariant.1)
 
 pub returns : goal.returns
 returns c = same_end c.args.s.now c.args.t.now c.requires c.loop-k.k c.loop-k-test.false c.loop-k.invariant.1
+

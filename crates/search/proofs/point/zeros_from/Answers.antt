@@ -6,23 +6,12 @@ use lib.ListN.{length}
 use Rattle.search.proofs.Testing.{zeros, zeros_next, zeros_stop, zeros_end}
 use Rattle.search.proofs.point.zeros_from.Goals as goal
 
-pub loop-k-init : goal.loop-k-init
-loop-k-init c = refl
-
-pub is_zero-requires : goal.is_zero-requires
-is_zero-requires c = omega arith
-
 pub returns-then-not-is_zero : goal.returns-then-not-is_zero
-returns-then-not-is_zero c = zeros_stop c.args.path.now c.loop-k.k c.loop-k-test.true (sym c.is_zero.ensures ∙ not-true _ c.if-not-is_zero.true) c.loop-k.invariant
-
-pub overflow_add-k : goal.overflow_add-k
-overflow_add-k c = omega arith
-
-pub loop-k-smaller : goal.loop-k-smaller
-loop-k-smaller c = omega arith
+returns-then-not-is_zero c = zeros_stop c.args.path.now c.loop-k.k c.loop-k-test.true (sym c.is_zero.ensures ∙ c.if-not-is_zero.true) c.loop-k.invariant
 
 pub loop-k-preserved : goal.loop-k-preserved
-loop-k-preserved c = zeros_next c.args.path.now c.loop-k.k c.loop-k-test.true (sym c.is_zero.ensures ∙ not-false _ c.if-not-is_zero.false) c.loop-k.invariant
+loop-k-preserved c = zeros_next c.args.path.now c.loop-k.k c.loop-k-test.true (sym c.is_zero.ensures ∙ c.if-not-is_zero.false) c.loop-k.invariant
 
 pub returns : goal.returns
 returns c = zeros_end c.args.path.now c.loop-k.k c.loop-k-test.false c.loop-k.invariant
+

@@ -12,59 +12,57 @@ use Rattle.search.proofs.Levels.{covered}
 use Rattle.search.specs.Points.{On, Last}
 use Rattle.search.proofs.x.try_again.Goals as goal
 
-abbrev At-level : goal.Start → Problem → Level → List Level → Type 0
-At-level s P v above = On P s.args.n (v ∷ above) s.args.t.now s.args.path.now (suc s.args.l)
-
-last : (q : goal.After-link_at-x) {P : Problem} {v : Level} {above : List Level} → At-level q.before.before P v above → Last P q.args.n v above q.args.t.now q.link_at-x.result
-last q O = last_of O q.link_at-x.ensures
-
-header_is : (r : goal.After-top-i) {P : Problem} {v : Level} {above : List Level} → At-level r.before.before.before.before P v above → r.top-i.result ≡ suc (own v.tried).item
-header_is r O = r.top-i.ensures _ _ _ (last_node (last r.before.before O))
-
-table_was : (u : goal.After-uncommit_all) {P : Problem} {v : Level} {above : List Level} → At-level u.before.before.before.before.before.before P v above → u.uncommit_all.new.t ≡ covered P v above
-table_was u O = u.uncommit_all.ensures _ _ _ _ (last_committed (last u.before.before.before.before O))
-
-next_is : (w : goal.After-dlink-y) {P : Problem} {v : Level} {above : List Level} → At-level w.before.before.before.before.before.before.before.before.before P v above → w.dlink-y.result ≡ first_or (suc (own v.tried).item) (map node v.left)
-next_is w O = w.dlink-y.ensures.value _ _ _ _ _ (again_list O (last w.before.before.before.before.before.before.before O) (table_was w.before.before.before O))
-
-next_one : (e : goal.Else-y-i) {P : Problem} {v : Level} {above : List Level} → At-level e.before.before.before.before.before.before.before.before.before.before P v above → Next P v above (own v.tried).item e.dlink-y.result
-next_one e O = again O (next_is e.before O) (header_is e.before.before.before.before.before.before O) e.if-y-i.false
-
 pub link_at-x-requires : goal.link_at-x-requires
 link_at-x-requires c = record { a_in_bounds = in_path c.requires.3; natural = word_natural c.requires.3 }
 
 pub top-i-requires : goal.top-i-requires
-top-i-requires c = (_, _, _, last_node (last c c.requires.3))
+top-i-requires c = (_, _, _, last_node (last_of c.requires.3 c.link_at-x.ensures))
 
 pub uncommit_all-requires : goal.uncommit_all-requires
-uncommit_all-requires c = (_, _, _, _, last_committed (last c.before.before c.requires.3))
+uncommit_all-requires c = (_, _, _, _, last_committed (last_of c.requires.3 c.link_at-x.ensures))
 
 pub dlink-y-requires : goal.dlink-y-requires
-dlink-y-requires c = 
-    (_, _, _, _, _, again_list c.requires.3 (last c.before.before.before.before c.requires.3) (table_was c.before c.requires.3))
+dlink-y-requires c =
+    let O = c.requires.3 in
+    let L = last_of O c.link_at-x.ensures in
+    (_, _, _, _, _, again_list O L (c.uncommit_all.ensures _ _ _ _ (last_committed L)))
 
 pub uncover-requires : goal.uncover-requires
-uncover-requires c = 
-    (_, _, _, _, last_covered (last c.before.before.before.before.before.before.before c.requires.3) (table_was c.before.before.before.before c.requires.3) (header_is c.before.before.before.before.before.before c.requires.3))
+uncover-requires c =
+    let L = last_of c.requires.3 c.link_at-x.ensures in
+    (_, _, _, _, last_covered L (c.uncommit_all.ensures _ _ _ _ (last_committed L)) (c.top-i.ensures _ _ _ (last_node L)))
 
 pub put_link-requires : goal.put_link-requires
 put_link-requires c = record { a_in_bounds = in_path c.requires.3; x_bound = omega arith }
 
 pub returns-then-y-i : goal.returns-then-y-i
-returns-then-y-i c = 
+returns-then-y-i c =
     λ P v above O.
-    back O (none_left O (next_is c.before.before.before.before.before.before.before O) (header_is c.before.before.before.before.before.before.before.before.before.before.before O) c.if-y-i.true)
-    (c.uncover.ensures P _ _ _ (last_covered (last c.before.before.before.before.before.before.before.before.before.before.before.before O) (table_was c.before.before.before.before.before.before.before.before.before O) (header_is c.before.before.before.before.before.before.before.before.before.before.before O))) c.put_link.ensures
+    let L = last_of O c.link_at-x.ensures in
+    let H = c.top-i.ensures P _ _ (last_node L) in
+    let T = c.uncommit_all.ensures P _ _ _ (last_committed L) in
+    back O (none_left O (c.dlink-y.ensures.value P _ _ _ _ (again_list O L T)) H c.if-y-i.true) (c.uncover.ensures P _ _ _ (last_covered L T H)) c.put_link.ensures
 
 pub put_link-requires-2 : goal.put_link-requires-2
-put_link-requires-2 c = record { a_in_bounds = in_path c.requires.3; x_bound = again_small c.requires.3 (table_was c.before.before.before.before c.requires.3) (next_one c.before c.requires.3) }
+put_link-requires-2 c =
+    let O = c.requires.3 in
+    let L = last_of O c.link_at-x.ensures in
+    let T = c.uncommit_all.ensures _ _ _ _ (last_committed L) in
+    let N = again O (c.dlink-y.ensures.value _ _ _ _ _ (again_list O L T)) (c.top-i.ensures _ _ _ (last_node L)) c.if-y-i.false in
+    record { a_in_bounds = in_path O; x_bound = again_small O T N }
 
 pub commit_all-requires : goal.commit_all-requires
-commit_all-requires c = 
-    (_, _, _, again_commit c.requires.3 (table_was c.before.before.before.before.before.before.before c.requires.3) (next_one c.before.before.before.before c.requires.3))
+commit_all-requires c =
+    let O = c.requires.3 in
+    let L = last_of O c.link_at-x.ensures in
+    let T = c.uncommit_all.ensures _ _ _ _ (last_committed L) in
+    let N = again O (c.dlink-y.ensures.value _ _ _ _ _ (again_list O L T)) (c.top-i.ensures _ _ _ (last_node L)) c.if-y-i.false in
+    (_, _, _, again_commit O T N)
 
 pub returns : goal.returns
-returns c = 
+returns c =
     λ P v above O.
-    let N = next_one c.before.before.before.before.before.before O in
-    onward O (table_was c.before.before.before.before.before.before.before.before.before O) N (c.commit_all.ensures P _ _ (again_commit O (table_was c.before.before.before.before.before.before.before.before.before O) N)) c.put_link-2.ensures
+    let L = last_of O c.link_at-x.ensures in
+    let T = c.uncommit_all.ensures P _ _ _ (last_committed L) in
+    let N = again O (c.dlink-y.ensures.value P _ _ _ _ (again_list O L T)) (c.top-i.ensures P _ _ (last_node L)) c.if-y-i.false in
+    onward O T N (c.commit_all.ensures P _ _ (again_commit O T N)) c.put_link-2.ensures

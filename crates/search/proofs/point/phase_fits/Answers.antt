@@ -1,8 +1,0 @@
-use borrow.Author.Rules.{rules}
-use Rattle.search.proofs.point.phase_fits.Goals as goal
-
-pub returns-in-Ready : goal.returns-in-Ready
-returns-in-Ready c = cc
-
-pub returns-in-Solution : goal.returns-in-Solution
-returns-in-Solution c = cc
