@@ -2,6 +2,7 @@ use mathlib.Core.Path.{◌≡◌, refl, ◌∙◌}
 use mathlib.Core.List.{[]}
 use native.Mathlib.Omega.{arith}
 use borrow.Author.Rules.{rules}
+use borrow.Enum.Refused.{opened}
 use lib.ListN.{length}
 use Rattle.rules.specs.Problem.{Problem}
 use Rattle.search.specs.Points.{On}
@@ -13,7 +14,7 @@ returns-then-ahead-eq0 c = λ P O. let W = c.loop-ahead.invariant.1 P O in walk_
 
 pub returns-in_default : goal.returns-in_default
 returns-in_default c =
-    λ P O. let W = c.loop-ahead.invariant.1 P O in walk_stops W (c.go-answer.ensures P W.s W.begun) c.in_default-own.keys2
+    λ P O. let W = c.loop-ahead.invariant.1 P O in walk_stops W (c.go-answer.ensures P W.s W.begun) (opened c.in_default.in_default-own.keys2)
 
 pub overflow_sub-left : goal.overflow_sub-left
 overflow_sub-left c =
