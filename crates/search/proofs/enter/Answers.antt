@@ -1,0 +1,37 @@
+use mathlib.Core.Path.{◌≡◌}
+use mathlib.Core.List.{List, map}
+use Prim.Native.Nat.{ℕ, suc}
+use native.Mathlib.Omega.{arith}
+use borrow.Author.Rules.{rules}
+use Rattle.rules.specs.Walk.{Level, chosen}
+use Rattle.rules.specs.Order.{node, choices, open_options}
+use Rattle.rules.specs.Links.{first_or}
+use Rattle.rules.specs.Problem.{Problem}
+use Rattle.search.proofs.Moving.{header_list, First, first_choice, no_choice, entry_room, entry_small, entry_trying, entered}
+use Rattle.search.specs.Points.{Taking}
+use Rattle.search.proofs.enter.Goals as goal
+
+pub dlink-x-requires : goal.dlink-x-requires
+dlink-x-requires c = (_, _, _, _, _, header_list c.requires.3.picked)
+
+pub returns-then-x-i : goal.returns-then-x-i
+returns-then-x-i c = λ P s j K.
+    rw (no_choice K.picked (c.dlink-x.ensures.value _ _ _ _ _ (header_list K.picked)) c.if-x-i.true) (c.retreat.ensures P s K.on)
+
+pub put_link-requires : goal.put_link-requires
+put_link-requires c =
+    let K = c.requires.3 in
+    record { a_in_bounds = entry_room K; x_bound = entry_small K (first_choice K.picked (c.dlink-x.ensures.value _ _ _ _ _ (header_list K.picked)) c.if-x-i.false) }
+
+pub try_item-a-requires : goal.try_item-a-requires
+try_item-a-requires c =
+    let K = c.requires.3 in
+    (_, _, _, entry_trying K (first_choice K.picked (c.dlink-x.ensures.value _ _ _ _ _ (header_list K.picked)) c.if-x-i.false))
+
+pub overflow_add-result : goal.overflow_add-result
+overflow_add-result c = omega (arith, entry_room c.requires.3)
+
+pub returns : goal.returns
+returns c = λ P s j K.
+    let F = first_choice K.picked (c.dlink-x.ensures.value _ _ _ _ _ (header_list K.picked)) c.if-x-i.false in
+    entered K F (c.try_item-a.ensures P _ _ (entry_trying K F)) c.put_link.ensures

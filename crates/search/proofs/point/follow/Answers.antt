@@ -1,0 +1,32 @@
+use mathlib.Core.Path.{◌≡◌, sym, ◌∙◌}
+use mathlib.Core.List.{List}
+use mathlib.Core.Bool.{true}
+use Prim.Native.Nat.{ℕ}
+use borrow.Author.Tests.{not-true, not-false}
+use borrow.Author.Rules.{rules}
+use Rattle.rules.specs.Words.{word}
+use Rattle.rules.specs.Walk.{Level, chosen}
+use Rattle.rules.specs.Problem.{Problem}
+use Rattle.rules.specs.Order.{pick}
+use Rattle.rules.specs.Calls.{level_of}
+use Rattle.rules.specs.Lists.{got}
+use Rattle.search.specs.Points.{Picked, header}
+use Rattle.search.proofs.Running.{taken, no_item}
+use Rattle.search.proofs.Replaying.{ways, bad_word, none_open, not_listed, listed, stepped, natural}
+use Rattle.search.specs.Replays.{Following}
+use Rattle.search.proofs.point.follow.Goals as goal
+
+pub try_item-requires : goal.try_item-requires
+try_item-requires c =
+    let F = c.requires.2 in
+    let k = taken _ (c.choose-i.ensures _ _ F.at) c.if-i-eq0.false in
+    let K : Picked c.requires.0 c.args.n c.requires.1 k.0 c.args.spare.now c.choose-i.result = record { at = F.at; picks = k.1; header_is = k.2 } in
+    (_, _, _, (listed _ _ c.link_at-q.ensures K (sym (c.is_listed.ensures _ _ _ K) ∙ c.if-not-is_listed.false)).2)
+
+pub returns : goal.returns
+returns c =
+    λ P s F.
+    let k = taken (pick P (chosen s)) (c.choose-i.ensures P s F.at) c.if-i-eq0.false in
+    let K : Picked P c.args.n s k.0 c.args.spare.now c.choose-i.result = record { at = F.at; picks = k.1; header_is = k.2 } in
+    let I : got (level_of c.link_at-q.result (ways P s k.0)) ≡ true = sym (c.is_listed.ensures P s k.0 K) ∙ c.if-not-is_listed.false in
+    stepped P s c.link_at-q.ensures K I (c.try_item.ensures P _ _ (listed P s c.link_at-q.ensures K I).2).at

@@ -1,0 +1,15 @@
+use mathlib.Core.List.{List}
+use Prim.Native.Nat.{ℕ}
+use native.Mathlib.Omega.{arith}
+use Rattle.rules.specs.Problem.{Problem}
+use Rattle.rules.specs.Walk.{Level}
+use Rattle.search.proofs.Replaying.{Looking, Look, look_header, look_start, look, look_none}
+use Rattle.search.specs.Points.{Picked}
+use Rattle.search.proofs.Moving.{header_list}
+use Rattle.search.proofs.point.is_listed.Given as goal
+
+abbrev pub invariant-loop-p : goal.invariant-loop-p
+invariant-loop-p l = (P : Problem) (s : List Level) (j : ℕ) → Picked P l.n s j l.t l.i → Looking P s j l.q l.p l.left
+
+abbrev pub decreases-loop-p : goal.decreases-loop-p
+decreases-loop-p l = l.left

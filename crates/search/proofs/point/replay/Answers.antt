@@ -1,0 +1,26 @@
+use mathlib.Core.List.{[]}
+use mathlib.Core.Path.{◌≡◌, ◌∙◌}
+use Prim.Native.Nat.{◌-◌}
+use native.Mathlib.Omega.{arith}
+use borrow.Author.Tests.{not-true, not-false}
+use lib.ListN.{length}
+use Rattle.rules.specs.Problem.{Problem}
+use Rattle.search.proofs.Replaying.{Replaying, replay_start, replay_on, replay_stop, replay_end}
+use Rattle.search.specs.Points.{At}
+use Rattle.search.specs.Replays.{Following}
+use Rattle.search.proofs.Moving.{one_length}
+use Rattle.search.proofs.point.replay.Goals as goal
+
+pub returns-then-not-follow : goal.returns-then-not-follow
+returns-then-not-follow c =
+    λ P A.
+    replay_stop (c.loop-l.invariant P A) c.requires.depth_in_bounds c.loop-l-test.true c.follow.result _ (c.follow.ensures P _ (record { at = (c.loop-l.invariant P A).on.at; inside = omega (arith, c.loop-l-test.true, c.requires.depth_in_bounds) })) (c.if-not-follow.true)
+
+pub loop-l-preserved : goal.loop-l-preserved
+loop-l-preserved c =
+    λ P A.
+    replay_on (c.loop-l.invariant P A) c.requires.depth_in_bounds c.loop-l-test.true c.follow.result _ (c.follow.ensures P _ (record { at = (c.loop-l.invariant P A).on.at; inside = omega (arith, c.loop-l-test.true, c.requires.depth_in_bounds) })) (c.if-not-follow.false)
+
+pub returns : goal.returns
+returns c = λ P A. replay_end (c.loop-l.invariant P A) c.loop-l-test.false
+

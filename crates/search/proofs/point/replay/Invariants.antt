@@ -1,0 +1,18 @@
+use mathlib.Core.List.{[]}
+use mathlib.Core.Path.{◌≡◌, ◌∙◌}
+use Prim.Native.Nat.{◌-◌}
+use native.Mathlib.Omega.{arith}
+use borrow.Author.Tests.{not-true, not-false}
+use lib.ListN.{length}
+use Rattle.rules.specs.Problem.{Problem}
+use Rattle.search.proofs.Replaying.{Replaying, replay_start, replay_on, replay_stop, replay_end}
+use Rattle.search.specs.Points.{At}
+use Rattle.search.specs.Replays.{Following}
+use Rattle.search.proofs.Moving.{one_length}
+use Rattle.search.proofs.point.replay.Given as goal
+
+abbrev pub invariant-loop-l : goal.invariant-loop-l
+invariant-loop-l l = (P : Problem) → At P l.n [] l.initial.spare → Replaying P l.n l.depth l.spare l.path l.l
+
+abbrev pub decreases-loop-l : goal.decreases-loop-l
+decreases-loop-l l = l.depth - l.l

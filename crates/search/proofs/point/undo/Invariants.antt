@@ -1,0 +1,15 @@
+use mathlib.Core.List.{List}
+use Prim.Native.Nat.{◌-◌}
+use native.Mathlib.Omega.{arith}
+use Rattle.rules.specs.Problem.{Problem}
+use Rattle.rules.specs.Walk.{Level}
+use Rattle.search.proofs.Replaying.{Undoing, Deepest, deepest, undone}
+use Rattle.search.specs.Replays.{Trailed}
+use Rattle.search.proofs.Moving.{one_length}
+use Rattle.search.proofs.point.undo.Given as goal
+
+abbrev pub invariant-loop-l : goal.invariant-loop-l
+invariant-loop-l l = (P : Problem) (s : List Level) → Trailed P l.n s l.initial.spare l.path l.depth → Undoing P l.n l.spare l.path l.l
+
+abbrev pub decreases-loop-l : goal.decreases-loop-l
+decreases-loop-l l = l.l

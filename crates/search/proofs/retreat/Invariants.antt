@@ -1,0 +1,17 @@
+use mathlib.Core.Path.{◌≡◌, refl, ◌∙◌}
+use mathlib.Core.List.{List}
+use Prim.Native.Nat.{◌-◌}
+use native.Mathlib.Omega.{arith}
+use borrow.Author.Rules.{rules}
+use lib.ListN.{length}
+use Rattle.rules.specs.Problem.{Problem}
+use Rattle.rules.specs.Walk.{Level}
+use Rattle.search.proofs.Moving.{Retreating, Deepest, deepest, level_small, gone_on, gone_back, gone_out, one_length, one_path}
+use Rattle.search.specs.Points.{On}
+use Rattle.search.proofs.retreat.Given as goal
+
+abbrev pub invariant-loop-l : goal.invariant-loop-l
+invariant-loop-l l = (P : Problem) (s : List Level) → On P l.n s l.initial.t l.initial.path l.depth → Retreating P l.n s l.t l.path l.l
+
+abbrev pub decreases-loop-l : goal.decreases-loop-l
+decreases-loop-l l = l.l
