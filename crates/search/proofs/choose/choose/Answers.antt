@@ -1,11 +1,8 @@
 use mathlib.Core.Path.{refl, ◌∙◌}
-use mathlib.Core.Logic.{⊎_elim}
-use mathlib.Core.List.{List, []}
-use Rattle.rules.specs.Problem.{Problem}
+use mathlib.Core.List.{[]}
 use Rattle.rules.specs.Order.{open_items}
-use Rattle.rules.specs.Walk.{Level, chosen}
-use Rattle.search.specs.Points.{At}
-use Rattle.search.proofs.Choosing.{Choosing, Turn, rank, ring_start, none_open, begin, turn, lighter_one, no_lighter, dead, chosen_is}
+use Rattle.rules.specs.Walk.{chosen}
+use Rattle.search.proofs.Choosing.{Turn, ring_start, none_open, begin, turn, lighter_one, no_lighter, dead, chosen_is}
 use Rattle.search.proofs.choose.choose.Goals as goal
 use Rattle.search.proofs.choose.choose.Goals.{then-curr-min, else-curr-min}
 
@@ -73,4 +70,3 @@ loop-p-preserved c = λ P s A.
 
 pub returns : goal.returns
 returns c = λ P s A. chosen_is P _ s _ A (c.loop-p.invariant P s A) c.loop-p-test.false
-
