@@ -1,14 +1,5 @@
-use mathlib.Core.Path.{◌≡◌}
-use mathlib.Core.List.{List, map}
-use Prim.Native.Nat.{ℕ, suc}
 use native.Mathlib.Omega.{arith}
-use borrow.Author.Rules.{rules}
-use Rattle.rules.specs.Walk.{Level, chosen}
-use Rattle.rules.specs.Order.{node, choices, open_options}
-use Rattle.rules.specs.Links.{first_or}
-use Rattle.rules.specs.Problem.{Problem}
-use Rattle.search.proofs.Moving.{header_list, First, first_choice, no_choice, entry_room, entry_small, entry_trying, entered}
-use Rattle.search.specs.Points.{Taking}
+use Rattle.search.proofs.Moving.{header_list, first_choice, no_choice, entry_room, entry_small, entry_trying, entered}
 use Rattle.search.proofs.enter.Goals as goal
 
 pub dlink-x-requires : goal.dlink-x-requires

@@ -1,12 +1,8 @@
 use mathlib.Core.Path.{refl}
-use mathlib.Core.List.{List}
 use native.Mathlib.Omega.{arith}
-use borrow.Author.Rules.{rules}
-use Rattle.rules.specs.Walk.{Level, retreat, follow, walk}
+use Rattle.rules.specs.Walk.{retreat, follow, walk}
 use Rattle.rules.specs.Order.{pick}
-use Rattle.rules.specs.Problem.{Problem}
 use Rattle.search.proofs.Moving.{level_small}
-use Rattle.search.specs.Points.{Begun}
 use Rattle.search.proofs.Running.{Onward, told, goes_on, from_ready, from_done, from_solution, from_last, done_on, top_is, made_on, made_updates}
 use Rattle.search.proofs.go.Goals as goal
 

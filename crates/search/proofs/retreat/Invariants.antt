@@ -1,12 +1,7 @@
-use mathlib.Core.Path.{◌≡◌, refl, ◌∙◌}
 use mathlib.Core.List.{List}
-use Prim.Native.Nat.{◌-◌}
-use native.Mathlib.Omega.{arith}
-use borrow.Author.Rules.{rules}
-use lib.ListN.{length}
 use Rattle.rules.specs.Problem.{Problem}
 use Rattle.rules.specs.Walk.{Level}
-use Rattle.search.proofs.Moving.{Retreating, Deepest, deepest, level_small, gone_on, gone_back, gone_out, one_length, one_path}
+use Rattle.search.proofs.Moving.{Retreating}
 use Rattle.search.specs.Points.{On}
 use Rattle.search.proofs.retreat.Given as goal
 

@@ -1,16 +1,23 @@
-use mathlib.Core.Path.{◌≡◌, sym, ◌∙◌}
+use mathlib.Core.Path.{◌≡◌}
+use mathlib.Core.Logic.{◌≢◌}
 use mathlib.Core.List.{List}
-use Prim.Native.Nat.{ℕ, ◌-◌}
+use Prim.Native.Nat.{ℕ}
+use lib.IntN.{ℤ}
 use native.Mathlib.Omega.{arith}
-use borrow.Author.Rules.{rules}
-use lib.ListN.{length}
+use Rattle.rules.specs.Problem.{Problem}
 use Rattle.rules.specs.Order.{pick}
 use Rattle.rules.specs.Walk.{Level, chosen, solution, paused, walk}
-use Rattle.rules.specs.Problem.{Problem}
 use Rattle.search.specs.Points.{On, header, Taking}
-use Rattle.search.proofs.Running.{Running, starts, taken, no_item, solved, waits, stopped, ends_ran, profile_room, visited_on, visited_out}
-use Rattle.search.proofs.Moving.{level_small, one_length, one_path}
+use Rattle.search.proofs.Running.{starts, taken, no_item, solved, waits, stopped, ends_ran, profile_room, visited_on, visited_out}
+use Rattle.search.proofs.Moving.{level_small}
 use Rattle.search.proofs.run.Goals as goal
+
+-- what is known at a turn
+taking : {P : Problem} {n : ℕ} {s : List Level} {t path : List ℤ} {l i : ℕ} → On P n s t path l → i ≡ header (pick P (chosen s)) → i ≢ 0
+    → (j : ℕ) × Taking P n s j t path l i
+taking {P} {s = s} O e ne =
+    let k = taken (pick P (chosen s)) e ne in
+    (k.0, record { on = O; picked = record { at = O.at; picks = k.1; header_is = k.2 } })
 
 pub loop-n-init : goal.loop-n-init
 loop-n-init c = λ P s O. starts _ O c.requires.updates_le_cap c.requires.profile
@@ -41,16 +48,14 @@ pub bump-requires : goal.bump-requires
 bump-requires c =
     let P = c.requires.some_on.0 in
     let R = c.loop-n.invariant P _ c.requires.some_on.2 in
-    let k = taken (pick P (chosen R.rest.s)) (c.choose-i.ensures P R.rest.s R.rest.on.at) c.if-i-eq0.false in
-    let K : Taking P c.args.n R.rest.s k.0 c.loop-n.t c.loop-n.path c.loop-n.l c.choose-i.result = record { on = R.rest.on; picked = record { at = R.rest.on.at; picks = k.1; header_is = k.2 } } in
+    let K = (taking R.rest.on (c.choose-i.ensures P R.rest.s R.rest.on.at) c.if-i-eq0.false).1 in
     omega (arith, profile_room R K)
 
 pub returns-in_default : goal.returns-in_default
 returns-in_default c =
     λ P s O.
     let R = c.loop-n.invariant P s O in
-    let k = taken (pick P (chosen R.rest.s)) (c.choose-i.ensures P R.rest.s R.rest.on.at) c.if-i-eq0.false in
-    let K : Taking P c.args.n R.rest.s k.0 c.loop-n.t c.loop-n.path c.loop-n.l c.choose-i.result = record { on = R.rest.on; picked = record { at = R.rest.on.at; picks = k.1; header_is = k.2 } } in
+    let K = (taking R.rest.on (c.choose-i.ensures P R.rest.s R.rest.on.at) c.if-i-eq0.false).1 in
     ends_ran (walk P (pick P) c.args.allowance s) c.args.st
     (visited_out R K c.if-visits-allowance.false _ _ _ (c.enter-way.ensures P _ _ K) c.bump.ensures c.in_default.is c.state_at-in_default.ensures)
 
@@ -58,6 +63,5 @@ pub loop-n-preserved : goal.loop-n-preserved
 loop-n-preserved c =
     λ P s O.
     let R = c.loop-n.invariant P s O in
-    let k = taken (pick P (chosen R.rest.s)) (c.choose-i.ensures P R.rest.s R.rest.on.at) c.if-i-eq0.false in
-    let K : Taking P c.args.n R.rest.s k.0 c.loop-n.t c.loop-n.path c.loop-n.l c.choose-i.result = record { on = R.rest.on; picked = record { at = R.rest.on.at; picks = k.1; header_is = k.2 } } in
+    let K = (taking R.rest.on (c.choose-i.ensures P R.rest.s R.rest.on.at) c.if-i-eq0.false).1 in
     visited_on R K c.if-visits-allowance.false _ _ _ (c.enter-way.ensures P _ _ K) c.bump.ensures c.in-To.is c.capped-u.ensures

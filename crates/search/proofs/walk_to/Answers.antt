@@ -1,12 +1,6 @@
-use mathlib.Core.Path.{◌≡◌, refl, ◌∙◌}
-use mathlib.Core.List.{[]}
-use native.Mathlib.Omega.{arith}
-use borrow.Author.Rules.{rules}
+use mathlib.Core.Path.{◌∙◌}
 use borrow.Enum.Refused.{opened}
-use lib.ListN.{length}
-use Rattle.rules.specs.Problem.{Problem}
-use Rattle.search.specs.Points.{On}
-use Rattle.search.proofs.Walking.{Walking, walk_start, walk_ends, walk_stops, visits_few, walk_turns}
+use Rattle.search.proofs.Walking.{walk_ends, walk_stops, visits_few, walk_turns}
 use Rattle.search.proofs.walk_to.Goals as goal
 
 pub returns-then-ahead-eq0 : goal.returns-then-ahead-eq0
@@ -23,4 +17,3 @@ overflow_sub-left c =
 pub loop-ahead-preserved : goal.loop-ahead-preserved
 loop-ahead-preserved c =
     ((c.go-answer.auto.t ∙ c.loop-ahead.invariant.0.0, c.go-answer.auto.path ∙ c.loop-ahead.invariant.0.1, c.go-answer.auto.profile ∙ c.loop-ahead.invariant.0.2), λ P O. let W = c.loop-ahead.invariant.1 P O in walk_turns W (c.go-answer.ensures P W.s W.begun) c.in-Solution.is c.if-ahead-eq0.false c.go-answer.auto.path)
-

@@ -1,11 +1,9 @@
-use mathlib.Core.Path.{◌≡◌, refl, ◌∙◌}
+use mathlib.Core.Path.{◌≡◌}
 use mathlib.Core.List.{[]}
-use native.Mathlib.Omega.{arith}
-use borrow.Author.Rules.{rules}
 use lib.ListN.{length}
 use Rattle.rules.specs.Problem.{Problem}
 use Rattle.search.specs.Points.{On}
-use Rattle.search.proofs.Walking.{Walking, walk_start, walk_ends, walk_stops, visits_few, walk_turns}
+use Rattle.search.proofs.Walking.{Walking}
 use Rattle.search.proofs.walk_to.Given as goal
 
 abbrev pub invariant-loop-ahead : goal.invariant-loop-ahead

@@ -1,13 +1,9 @@
-use mathlib.Core.List.{List}
-use mathlib.Core.Path.{◌≡◌, refl, ap, ◌∙◌}
-use Prim.Native.Nat.{ℕ, ◌-◌, ◌≤◌}
+use mathlib.Core.Path.{refl, ap, ◌∙◌}
+use Prim.Native.Nat.{ℕ, ◌-◌}
 use native.Mathlib.Omega.{arith}
 use lib.IntN.{pos}
-use lib.ListN.{length, set}
-use Rattle.rules.specs.Problem.{Problem}
-use Rattle.rules.specs.Walk.{Level}
-use Rattle.search.proofs.Found.{Writing, writing, Line, line, written}
-use Rattle.search.specs.Points.{On}
+use lib.ListN.{set}
+use Rattle.search.proofs.Found.{writing, line, written}
 use Rattle.search.proofs.write_found.Goals as goal
 
 pub loop-l-init : goal.loop-l-init
@@ -26,16 +22,14 @@ option_of-m-requires c =
     (_, _, _, L.is_node c.link_at.ensures)
 
 pub loop-l-preserved : goal.loop-l-preserved
-loop-l-preserved c =
-    (
-      λ P s O.
-          let L = line O.at (c.loop-l.invariant.0 P s O) c.loop-l-test.true in
-          L.next (c.put_link.ensures ∙ ap (λ (m : ℕ). set c.loop-l.found (c.loop-l.l - 1) (pos m)) (c.option_of-m.ensures.value _ _ _ (L.is_node c.link_at.ensures)))
-          (omega (arith, c.loop-l-test.true, c.loop-l.invariant.1, c.loop-l.invariant.2, c.requires.depth_in_bounds)),
-      c.put_link.auto.t ∙ c.loop-l.invariant.1,
-      omega (arith, c.loop-l.invariant.2),
-    )
+loop-l-preserved c = (
+  λ P s O.
+      let L = line O.at (c.loop-l.invariant.0 P s O) c.loop-l-test.true in
+      L.next (c.put_link.ensures ∙ ap (λ (m : ℕ). set c.loop-l.found (c.loop-l.l - 1) (pos m)) (c.option_of-m.ensures.value _ _ _ (L.is_node c.link_at.ensures)))
+      (omega (arith, c.loop-l-test.true, c.loop-l.invariant.1, c.loop-l.invariant.2, c.requires.depth_in_bounds)),
+  c.put_link.auto.t ∙ c.loop-l.invariant.1,
+  omega (arith, c.loop-l.invariant.2),
+)
 
 pub returns : goal.returns
 returns c = λ P s O. written (c.loop-l.invariant.0 P s O) c.loop-l-test.false
-

@@ -1,12 +1,10 @@
 use mathlib.Core.List.{List}
-use mathlib.Core.Path.{◌≡◌, refl, ap, ◌∙◌}
-use Prim.Native.Nat.{ℕ, ◌-◌, ◌≤◌}
-use native.Mathlib.Omega.{arith}
-use lib.IntN.{pos}
-use lib.ListN.{length, set}
+use mathlib.Core.Path.{◌≡◌}
+use Prim.Native.Nat.{◌≤◌}
+use lib.ListN.{length}
 use Rattle.rules.specs.Problem.{Problem}
 use Rattle.rules.specs.Walk.{Level}
-use Rattle.search.proofs.Found.{Writing, writing, Line, line, written}
+use Rattle.search.proofs.Found.{Writing}
 use Rattle.search.specs.Points.{On}
 use Rattle.search.proofs.write_found.Given as goal
 

@@ -1,11 +1,8 @@
-use mathlib.Core.Path.{refl, ◌∙◌}
-use mathlib.Core.Logic.{⊎_elim}
-use mathlib.Core.List.{List, []}
+use mathlib.Core.List.{List}
 use Rattle.rules.specs.Problem.{Problem}
-use Rattle.rules.specs.Order.{open_items}
-use Rattle.rules.specs.Walk.{Level, chosen}
+use Rattle.rules.specs.Walk.{Level}
 use Rattle.search.specs.Points.{At}
-use Rattle.search.proofs.Choosing.{Choosing, Turn, rank, ring_start, none_open, begin, turn, lighter_one, no_lighter, dead, chosen_is}
+use Rattle.search.proofs.Choosing.{Choosing, rank}
 use Rattle.search.proofs.choose.choose.Given as goal
 
 abbrev pub invariant-loop-p : goal.invariant-loop-p

@@ -1,19 +1,12 @@
 use mathlib.Core.Path.{◌≡◌, sym, ◌∙◌}
-use mathlib.Core.List.{List}
 use mathlib.Core.Bool.{true}
-use Prim.Native.Nat.{ℕ}
-use borrow.Author.Tests.{not-true, not-false}
-use borrow.Author.Rules.{rules}
-use Rattle.rules.specs.Words.{word}
-use Rattle.rules.specs.Walk.{Level, chosen}
-use Rattle.rules.specs.Problem.{Problem}
+use Rattle.rules.specs.Walk.{chosen}
 use Rattle.rules.specs.Order.{pick}
 use Rattle.rules.specs.Calls.{level_of}
 use Rattle.rules.specs.Lists.{got}
-use Rattle.search.specs.Points.{Picked, header}
-use Rattle.search.proofs.Running.{taken, no_item}
-use Rattle.search.proofs.Replaying.{ways, bad_word, none_open, not_listed, listed, stepped, natural}
-use Rattle.search.specs.Replays.{Following}
+use Rattle.search.specs.Points.{Picked}
+use Rattle.search.proofs.Running.{taken}
+use Rattle.search.proofs.Replaying.{ways, listed, stepped}
 use Rattle.search.proofs.point.follow.Goals as goal
 
 pub try_item-requires : goal.try_item-requires

@@ -1,10 +1,5 @@
-use mathlib.Core.List.{List}
-use Prim.Native.Nat.{ℕ}
 use native.Mathlib.Omega.{arith}
-use Rattle.rules.specs.Problem.{Problem}
-use Rattle.rules.specs.Walk.{Level}
-use Rattle.search.proofs.Replaying.{Looking, Look, look_header, look_start, look, look_none}
-use Rattle.search.specs.Points.{Picked}
+use Rattle.search.proofs.Replaying.{look_header, look_start, look, look_none}
 use Rattle.search.proofs.Moving.{header_list}
 use Rattle.search.proofs.point.is_listed.Goals as goal
 
@@ -36,4 +31,3 @@ loop-p-preserved c = λ P s j K.
 
 pub returns : goal.returns
 returns c = λ P s j K. look_none K (c.loop-p.invariant P s j K) c.loop-p-test.false
-

@@ -1,11 +1,9 @@
 use mathlib.Core.List.{List}
 use Prim.Native.Nat.{ℕ}
-use native.Mathlib.Omega.{arith}
 use Rattle.rules.specs.Problem.{Problem}
 use Rattle.rules.specs.Walk.{Level}
-use Rattle.search.proofs.Replaying.{Looking, Look, look_header, look_start, look, look_none}
+use Rattle.search.proofs.Replaying.{Looking}
 use Rattle.search.specs.Points.{Picked}
-use Rattle.search.proofs.Moving.{header_list}
 use Rattle.search.proofs.point.is_listed.Given as goal
 
 abbrev pub invariant-loop-p : goal.invariant-loop-p

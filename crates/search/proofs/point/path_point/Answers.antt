@@ -1,10 +1,5 @@
-use mathlib.Core.Bool.{true}
-use mathlib.Core.Path.{◌≡◌, sym, ◌∙◌}
-use borrow.Author.Tests.{not-true, not-false}
-use borrow.Author.Rules.{rules}
-use lib.ListN.{length}
-use Rattle.rules.specs.Calls.{depth_fits}
-use Rattle.search.proofs.Testing.{depth_le, bad_depth, bad_zeros, bad_path, good_path}
+use mathlib.Core.Path.{sym, ◌∙◌}
+use Rattle.search.proofs.Testing.{bad_depth, bad_zeros, bad_path, good_path}
 use Rattle.search.proofs.point.path_point.Goals as goal
 
 pub returns-then-not-depth_fits : goal.returns-then-not-depth_fits
@@ -27,4 +22,3 @@ returns c =
     good_path P c.args.st c.args.path.now h (sym c.depth_fits.ensures ∙ c.if-not-depth_fits.false)
     (sym c.zeros_from.ensures ∙ c.if-not-zeros_from.false)
     R c.if-l-d.false (c.choose-i.ensures P _ R.at) c.phase_fits.ensures
-

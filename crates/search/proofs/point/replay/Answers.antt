@@ -1,14 +1,5 @@
-use mathlib.Core.List.{[]}
-use mathlib.Core.Path.{◌≡◌, ◌∙◌}
-use Prim.Native.Nat.{◌-◌}
 use native.Mathlib.Omega.{arith}
-use borrow.Author.Tests.{not-true, not-false}
-use lib.ListN.{length}
-use Rattle.rules.specs.Problem.{Problem}
-use Rattle.search.proofs.Replaying.{Replaying, replay_start, replay_on, replay_stop, replay_end}
-use Rattle.search.specs.Points.{At}
-use Rattle.search.specs.Replays.{Following}
-use Rattle.search.proofs.Moving.{one_length}
+use Rattle.search.proofs.Replaying.{replay_on, replay_stop, replay_end}
 use Rattle.search.proofs.point.replay.Goals as goal
 
 pub returns-then-not-follow : goal.returns-then-not-follow
@@ -23,4 +14,3 @@ loop-l-preserved c =
 
 pub returns : goal.returns
 returns c = λ P A. replay_end (c.loop-l.invariant P A) c.loop-l-test.false
-

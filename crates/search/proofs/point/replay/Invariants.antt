@@ -1,14 +1,8 @@
 use mathlib.Core.List.{[]}
-use mathlib.Core.Path.{◌≡◌, ◌∙◌}
 use Prim.Native.Nat.{◌-◌}
-use native.Mathlib.Omega.{arith}
-use borrow.Author.Tests.{not-true, not-false}
-use lib.ListN.{length}
 use Rattle.rules.specs.Problem.{Problem}
-use Rattle.search.proofs.Replaying.{Replaying, replay_start, replay_on, replay_stop, replay_end}
+use Rattle.search.proofs.Replaying.{Replaying}
 use Rattle.search.specs.Points.{At}
-use Rattle.search.specs.Replays.{Following}
-use Rattle.search.proofs.Moving.{one_length}
 use Rattle.search.proofs.point.replay.Given as goal
 
 abbrev pub invariant-loop-l : goal.invariant-loop-l

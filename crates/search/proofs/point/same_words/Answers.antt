@@ -1,9 +1,5 @@
-use mathlib.Core.Path.{◌≡◌, refl, sym, ◌∙◌}
-use Prim.Native.Nat.{◌-◌, ◌≤◌}
+use mathlib.Core.Path.{sym, ◌∙◌}
 use native.Mathlib.Omega.{arith}
-use borrow.Author.Tests.{not-true, not-false}
-use lib.ListN.{length, drop}
-use Rattle.rules.specs.Words.{same_words}
 use Rattle.search.proofs.Testing.{same_next, same_stop, same_end}
 use Rattle.search.proofs.point.same_words.Goals as goal
 
@@ -17,4 +13,3 @@ loop-k-preserved c =
 
 pub returns : goal.returns
 returns c = same_end c.args.s.now c.args.t.now c.requires c.loop-k.k c.loop-k-test.false c.loop-k.invariant.1
-

@@ -1,10 +1,7 @@
-use mathlib.Core.Path.{◌≡◌, refl, sym, ◌∙◌}
+use mathlib.Core.Path.{◌≡◌}
 use Prim.Native.Nat.{◌-◌, ◌≤◌}
-use native.Mathlib.Omega.{arith}
-use borrow.Author.Tests.{not-true, not-false}
 use lib.ListN.{length, drop}
 use Rattle.rules.specs.Words.{same_words}
-use Rattle.search.proofs.Testing.{same_next, same_stop, same_end}
 use Rattle.search.proofs.point.same_words.Given as goal
 
 abbrev pub invariant-loop-k : goal.invariant-loop-k

@@ -1,11 +1,4 @@
-use mathlib.Core.List.{List}
-use Prim.Native.Nat.{◌-◌}
-use native.Mathlib.Omega.{arith}
-use Rattle.rules.specs.Problem.{Problem}
-use Rattle.rules.specs.Walk.{Level}
-use Rattle.search.proofs.Replaying.{Undoing, Deepest, deepest, undone}
-use Rattle.search.specs.Replays.{Trailed}
-use Rattle.search.proofs.Moving.{one_length}
+use Rattle.search.proofs.Replaying.{deepest}
 use Rattle.search.proofs.point.undo.Goals as goal
 
 pub loop-l-preserved : goal.loop-l-preserved

@@ -1,11 +1,8 @@
 use mathlib.Core.List.{List}
-use Prim.Native.Nat.{◌-◌}
-use native.Mathlib.Omega.{arith}
 use Rattle.rules.specs.Problem.{Problem}
 use Rattle.rules.specs.Walk.{Level}
-use Rattle.search.proofs.Replaying.{Undoing, Deepest, deepest, undone}
+use Rattle.search.proofs.Replaying.{Undoing}
 use Rattle.search.specs.Replays.{Trailed}
-use Rattle.search.proofs.Moving.{one_length}
 use Rattle.search.proofs.point.undo.Given as goal
 
 abbrev pub invariant-loop-l : goal.invariant-loop-l

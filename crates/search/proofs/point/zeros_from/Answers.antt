@@ -1,9 +1,5 @@
-use mathlib.Core.Path.{◌≡◌, refl, sym, ◌∙◌}
-use Prim.Native.Nat.{◌-◌}
-use native.Mathlib.Omega.{arith}
-use borrow.Author.Tests.{not-true, not-false}
-use lib.ListN.{length}
-use Rattle.search.proofs.Testing.{zeros, zeros_next, zeros_stop, zeros_end}
+use mathlib.Core.Path.{sym, ◌∙◌}
+use Rattle.search.proofs.Testing.{zeros_next, zeros_stop, zeros_end}
 use Rattle.search.proofs.point.zeros_from.Goals as goal
 
 pub returns-then-not-is_zero : goal.returns-then-not-is_zero
@@ -14,4 +10,3 @@ loop-k-preserved c = zeros_next c.args.path.now c.loop-k.k c.loop-k-test.true (s
 
 pub returns : goal.returns
 returns c = zeros_end c.args.path.now c.loop-k.k c.loop-k-test.false c.loop-k.invariant
-

@@ -1,9 +1,7 @@
-use mathlib.Core.Path.{◌≡◌, refl, sym, ◌∙◌}
+use mathlib.Core.Path.{◌≡◌}
 use Prim.Native.Nat.{◌-◌}
-use native.Mathlib.Omega.{arith}
-use borrow.Author.Tests.{not-true, not-false}
 use lib.ListN.{length}
-use Rattle.search.proofs.Testing.{zeros, zeros_next, zeros_stop, zeros_end}
+use Rattle.search.proofs.Testing.{zeros}
 use Rattle.search.proofs.point.zeros_from.Given as goal
 
 abbrev pub invariant-loop-k : goal.invariant-loop-k

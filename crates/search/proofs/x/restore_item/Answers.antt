@@ -1,4 +1,3 @@
-use borrow.Author.Rules.{rules}
 use Rattle.search.proofs.Moving.{last_node, last_committed, last_covered, restored}
 use Rattle.search.proofs.x.restore_item.Goals as goal
 
@@ -15,4 +14,3 @@ uncover-requires c =
 pub returns : goal.returns
 returns c = λ P v above K.
     restored K (c.uncover.ensures P _ _ _ (last_covered K (c.uncommit_all.ensures P _ _ _ (last_committed K)) (c.top-i.ensures P _ _ (last_node K))))
-

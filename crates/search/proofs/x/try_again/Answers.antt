@@ -1,15 +1,5 @@
-use mathlib.Core.List.{List, ◌∷◌, map}
-use mathlib.Core.Path.{◌≡◌}
-use Prim.Native.Nat.{suc}
 use native.Mathlib.Omega.{arith}
-use borrow.Author.Rules.{rules}
-use Rattle.rules.specs.Problem.{Problem}
-use Rattle.rules.specs.Order.{node}
-use Rattle.rules.specs.Walk.{Level}
-use Rattle.rules.specs.Links.{own, first_or}
-use Rattle.search.proofs.Moving.{last_node, last_committed, last_covered, in_path, word_natural, last_of, again_list, Next, again, none_left, back, again_small, again_commit, onward}
-use Rattle.search.proofs.Levels.{covered}
-use Rattle.search.specs.Points.{On, Last}
+use Rattle.search.proofs.Moving.{last_node, last_committed, last_covered, in_path, word_natural, last_of, again_list, again, none_left, back, again_small, again_commit, onward}
 use Rattle.search.proofs.x.try_again.Goals as goal
 
 pub link_at-x-requires : goal.link_at-x-requires

@@ -1,4 +1,3 @@
-use borrow.Author.Rules.{rules}
 use Rattle.search.proofs.Moving.{try_cover, try_commit, tried}
 use Rattle.search.proofs.x.try_item.Goals as goal
 
@@ -13,4 +12,3 @@ pub returns : goal.returns
 returns c = λ P s v M.
     let D = c.cover-a.ensures P _ _ (try_cover M) in
     tried M D (c.commit_all-b.ensures P _ _ (try_commit M D.is)) c.capped.ensures
-
