@@ -12,4 +12,7 @@ loop-at-preserved c =
     find_turn c.loop-at.invariant c.scan-end.ensures (sym c.look.ensures ∙ c.in-Past.is)
 
 pub returns : goal.returns
-returns c = record { value = find_end c.loop-at.invariant c.loop-at-test.false; low_place = c.loop-at.invariant.few }
+returns c = record {
+  value = find_end c.loop-at.invariant c.loop-at-test.false;
+  low_place = c.loop-at.invariant.few;
+}

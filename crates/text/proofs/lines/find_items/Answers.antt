@@ -12,7 +12,7 @@ returns-then-items_fault c =
 
 pub returns-then-not-is_passed : goal.returns-then-not-is_passed
 returns-then-not-is_passed c =
-    seek_found c.loop-at.invariant c.scan-end.ensures (c.requires) c.loop-at-test.true (sym c.is_passed.ensures ∙ c.if-not-is_passed.true) (sym c.if-items_fault.false ∙ bad_items _ (sym c.is_clean.ensures ∙ c.if-not-is_clean.false) (sym c.is_passed.ensures ∙ c.if-not-is_passed.true) c.items_fault.ensures)
+    seek_found c.loop-at.invariant c.scan-end.ensures c.requires c.loop-at-test.true (sym c.is_passed.ensures ∙ c.if-not-is_passed.true) (sym c.if-items_fault.false ∙ bad_items _ (sym c.is_clean.ensures ∙ c.if-not-is_clean.false) (sym c.is_passed.ensures ∙ c.if-not-is_passed.true) c.items_fault.ensures)
 
 pub loop-at-preserved : goal.loop-at-preserved
 loop-at-preserved c =

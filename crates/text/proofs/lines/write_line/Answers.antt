@@ -12,7 +12,10 @@ returns-then-is_passed c =
     record { value = p.0; words_after = p.1 }
 
 pub write_option-requires : goal.write_option-requires
-write_option-requires c = record { parts = c.requires.parts; line_in_bounds = (let h = ap length (line_one (known c.args.front c.args.primary.now c.args.secondary.now) c.args.line.now (sym c.is_passed.ensures ∙ c.if-is_passed.false)) in omega (arith, c.requires.line_in_bounds)) }
+write_option-requires c = record {
+  parts = c.requires.parts;
+  line_in_bounds = let h = ap length (line_one (known c.args.front c.args.primary.now c.args.secondary.now) c.args.line.now (sym c.is_passed.ensures ∙ c.if-is_passed.false)) in omega (arith, c.requires.line_in_bounds);
+}
 
 pub returns : goal.returns
 returns c =

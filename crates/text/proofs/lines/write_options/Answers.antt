@@ -6,7 +6,10 @@ use Rattle.text.proofs.Writing.{put_end}
 use Rattle.text.proofs.lines.write_options.Goals as goal
 
 pub write_line-next-requires : goal.write_line-next-requires
-write_line-next-requires c = record { parts = (c.requires.parts.0, (let l = part_long c.args.rest.now c.loop-at.at c.scan-end.result c.scan-end.ensures.low c.scan-end.ensures.high in omega (arith, c.requires.parts.1))); line_in_bounds = options_room c.loop-at.invariant c.scan-end.ensures c.requires.rest_in_bounds }
+write_line-next-requires c = record {
+  parts = (c.requires.parts.0, (let l = part_long c.args.rest.now c.loop-at.at c.scan-end.result c.scan-end.ensures.low c.scan-end.ensures.high in omega (arith, c.requires.parts.1)));
+  line_in_bounds = options_room c.loop-at.invariant c.scan-end.ensures c.requires.rest_in_bounds;
+}
 
 pub loop-at-preserved : goal.loop-at-preserved
 loop-at-preserved c = options_turn c.loop-at.invariant c.scan-end.ensures c.write_line-next.ensures.value c.write_line-next.ensures.words_after

@@ -11,10 +11,16 @@ returns-then-token-eq0 c =
     record { value = p.0; words_after = p.1 }
 
 pub put_link-requires : goal.put_link-requires
-put_link-requires c = record { a_in_bounds = (let h = ap length (words_are (known c.args.front c.args.primary.now c.args.secondary.now) c.args.token.now c.if-token-eq0.false c.entry_of.ensures.value c.in-Is.is) in omega (arith, c.requires.token_in_bounds)); x_bound = (low_item c.in-Is.is c.entry_of.ensures.low_entry).0 }
+put_link-requires c = record {
+  a_in_bounds = let h = ap length (words_are (known c.args.front c.args.primary.now c.args.secondary.now) c.args.token.now c.if-token-eq0.false c.entry_of.ensures.value c.in-Is.is) in omega (arith, c.requires.token_in_bounds);
+  x_bound = (low_item c.in-Is.is c.entry_of.ensures.low_entry).0;
+}
 
 pub put_link-requires-in-Is : goal.put_link-requires-in-Is
-put_link-requires-in-Is c = record { a_in_bounds = (let h = ap length (words_are (known c.args.front c.args.primary.now c.args.secondary.now) c.args.token.now c.if-token-eq0.false c.entry_of.ensures.value c.in-Is.is) in omega (arith, c.requires.token_in_bounds, set_long c.args.words.now c.args.place _ c.put_link.ensures)); x_bound = (let l = (low_item c.in-Is.is c.entry_of.ensures.low_entry).1 in omega arith) }
+put_link-requires-in-Is c = record {
+  a_in_bounds = let h = ap length (words_are (known c.args.front c.args.primary.now c.args.secondary.now) c.args.token.now c.if-token-eq0.false c.entry_of.ensures.value c.in-Is.is) in omega (arith, c.requires.token_in_bounds, set_long c.args.words.now c.args.place _ c.put_link.ensures);
+  x_bound = let l = (low_item c.in-Is.is c.entry_of.ensures.low_entry).1 in omega arith;
+}
 
 pub returns-in-Is : goal.returns-in-Is
 returns-in-Is c =
