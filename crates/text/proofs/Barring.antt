@@ -46,6 +46,9 @@ module _ (second : Bool) (t : List ℕ) (ts : List (List ℕ)) where
     pub fault_again : {r : Bool} → is_bar t ≡ false → each name_byte t ≡ true → r ≡ has (same_name t) ts → r ≡ piece_bad second t ts
     fault_again b s e = e ∙ sym (bad_is t refl ∙ rw (b, s) refl)
 
+pub bar_first : {second r x : Bool} → second ≡ false → r ≡ x → r ≡ (second || x)
+bar_first s e = rw s e
+
 -- ---- the loop
 
 spread : (b : Bool) (p q r s : Bool) → cond b (p || q) (r || s) ≡ (cond b p r || cond b q s)

@@ -5,14 +5,15 @@ use mathlib.Core.Path.{◌≡◌, refl, sym, ap, ◌∙◌}
 use Prim.Native.Nat.{ℕ, zero, suc, ◌+◌, ◌-◌, ◌≤◌, ◌<◌}
 use native.Mathlib.Numerals.{add-one}
 use native.Mathlib.Omega.{arith}
-use borrow.Author.Tests.{le-leb, lt-leb, eq-eqb, ne_eqb, ltb-true, ltb-false, eqb-true, eqb-false}
+use borrow.Author.Tests.{le-leb, lt-leb, eq-eqb, ne_eqb, lt-ltb, le-ltb, ltb-true, ltb-false, eqb-true, eqb-false}
 use lib.Dec.{eqb, leb, ltb}
 use lib.ListN.{length, get_or, take, drop, length-drop}
 use lib.Seq.{drop-cons, take-suc, take_all, get_or-drop}
 use Rattle.rules.specs.Lists.{each, has}
 use Rattle.rules.specs.Text.{allowed, white, name_byte, same_name, is_bar}
 use Rattle.laws.specs.Lists.{has_append}
-use Rattle.text.specs.Scan.{part, Stopped}
+use Rattle.text.specs.declared.scan.Stop.{Stop}
+use Rattle.text.specs.Scan.{stops_at, part, Stopped, one_after}
 use Rattle.text.proofs.Tests.{or_false, and_true, empty}
 
 -- ---- bytes
@@ -79,6 +80,15 @@ module _ (b : ℕ) where
         rw (le-leb 48 b (omega arith), lt-leb b 57 h, le-leb 65 b (omega arith), lt-leb b 90 (omega arith), le-leb 97 b k, ne_eqb b 35 (λ e. omega arith))
         (sym (or_false (leb b 122)))
 
+pub stops_as : {s k : Stop} (b : ℕ) {r : Bool} → s ≡ k → r ≡ stops_at k b → r ≡ stops_at s b
+stops_as b e h = rw e h
+
+pub past_next : (at end : ℕ) → at < end → at + 1 ≡ one_after at end
+past_next at end h = rw (lt-ltb at end h)
+
+pub past_end : (at end : ℕ) → end ≤ at → at ≡ one_after at end
+past_end at end h = rw (le-ltb at end h)
+
 -- ---- the scan
 
 pub part_more : (s : List ℕ) (a i : ℕ) → a ≤ i → i < length s → part s a (i + 1) ≡ part s a i ++ get_or s i 0 ∷ []
@@ -112,6 +122,12 @@ module _ {p : ℕ → Bool} {s : List ℕ} {from i : ℕ} (I : Scanning p s from
     high = omega arith;
     clear = ap (has p) (part_more s from i I.low h) ∙ has_append p (part s from i) (get_or s i 0 ∷ []) ∙ rw I.clear (has_one p (get_or s i 0) e);
   }
+
+  pub scan_found : p (get_or s i 0) ≡ true → Stopped p s from i
+  scan_found e = record { low = I.low; high = I.high; clear = I.clear; stop = λ h. e }
+
+  pub scan_end : length s ≤ i → Stopped p s from i
+  scan_end k = record { low = I.low; high = I.high; clear = I.clear; stop = λ h. absurd (omega arith) }
 
 -- ---- what the place says of the whole
 

@@ -156,6 +156,20 @@ pub entered_as : (I : Items) (t : List ℕ) {r : Token} {end c : ℕ} {x : Enter
 unfolding entered
 entered_as I t h e u = u ∙ sym (ap (λ (o : Option Written). told (as_entered I o)) (subst (λ (x : Token). Cuts t x) e h).0)
 
+pub cuts_within : (t : List ℕ) {r : Token} {end c : ℕ} → Cuts t r → r ≡ TokenSays.Is end c → end ≤ length t
+cuts_within t h e = (subst (λ (x : Token). Cuts t x) e h).1
+
+pub cuts_low : (t : List ℕ) {r : Token} {end c : ℕ} → Cuts t r → r ≡ TokenSays.Is end c → c < 256
+cuts_low t h e = (subst (λ (x : Token). Cuts t x) e h).2
+
+pub told_got : (o : Option Entry) {r : Entered} {i c : ℕ} → r ≡ told o → r ≡ EnteredSays.Is i c → true ≡ got o
+told_got none e u = absurd (let z : ◌≡◌ {A = ℕ} 0 1 = cc in omega arith)
+told_got (some x) e u = refl
+
+pub told_not : (o : Option Entry) {r : Entered} → r ≡ told o → r ≡ EnteredSays.Nothing → false ≡ got o
+told_not none e u = refl
+told_not (some x) e u = absurd (let z : ◌≡◌ {A = ℕ} 0 1 = cc in omega arith)
+
 -- ---- its name among the others
 
 pub names_empty : (name t : List ℕ) → length t ≡ 0 → false ≡ names_piece name t

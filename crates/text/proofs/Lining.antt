@@ -97,6 +97,9 @@ module _ (known : Option Items) (l : List ℕ) where
 pub bad_items : (l : List ℕ) {r : Bool} → each allowed l ≡ true → passed (tokens l) ≡ false → r ≡ items_bad false (tokens l) → r ≡ line_bad none l
 bad_items l e p u = u ∙ rw (e, p) refl
 
+pub bad_option : (I : Items) (l : List ℕ) {r : Bool} → each allowed l ≡ true → passed (tokens l) ≡ false → r ≡ option_bad I (tokens l) → r ≡ line_bad (some I) l
+bad_option I l e p u = u ∙ rw (e, p) refl
+
 stated_passed : (l : List ℕ) → passed (tokens l) ≡ true → stated (l ∷ []) ≡ []
 unfolding keep
 stated_passed l p = rw p refl
@@ -113,6 +116,9 @@ options_one l p = sym (ap length (stated_one l p))
 
 pub counts_none : (l : List ℕ) → passed (tokens l) ≡ true → 0 ≡ line_words l
 counts_none l p = rw p refl
+
+pub counts_some : (l : List ℕ) {n : ℕ} → passed (tokens l) ≡ false → n ≡ length (tokens l) → 1 + 2 * n ≡ line_words l
+counts_some l p e = ap (λ (k : ℕ). 1 + 2 * k) e ∙ rw p refl
 
 pub line_none : (I : Items) (l : List ℕ) → passed (tokens l) ≡ true → options_words I (l ∷ []) ≡ []
 unfolding options_words flat
@@ -160,6 +166,9 @@ pub record Seeking (front : Bool) (text : List ℕ) (number at : ℕ) : Type 0 w
   pub same_bad : first_bad front 1 none (lines text) ≡ first_bad front number none (lines (drop at text))
   pub same_stated : stated (lines text) ≡ stated (lines (drop at text))
 
+pub seek_start : (front : Bool) (text : List ℕ) → Seeking front text 1 0
+seek_start front text = record { first = omega arith; low = omega arith; same_bad = refl; same_stated = refl }
+
 module _ {front : Bool} {text : List ℕ} {number at end : ℕ} (I : Seeking front text number at) (S : Stopped lf text at end) where
   abbrev l : List ℕ
   l = part text at end
@@ -201,6 +210,18 @@ pub record Checking (front : Bool) (K : Items) (rest : List ℕ) (from options w
   pub same_bad : first_bad front from (some K) (lines rest) ≡ first_bad front number (some K) (lines (drop at rest))
   pub same_options : length (stated (lines rest)) ≡ options + length (stated (lines (drop at rest)))
   pub same_words : length (options_words K (lines rest)) ≡ words + length (options_words K (lines (drop at rest)))
+
+pub check_start : (front : Bool) (K : Items) (rest : List ℕ) (from : ℕ) → 1 ≤ from → Checking front K rest from 0 0 from 0
+check_start front K rest from h = record {
+  first = h;
+  low = omega arith;
+  few = omega arith;
+  small = omega arith;
+  high = omega arith;
+  same_bad = refl;
+  same_options = omega arith;
+  same_words = omega arith;
+}
 
 module _ {front : Bool} {K : Items} {rest : List ℕ} {from options words number at end : ℕ} (C : Checking front K rest from options words number at) (S : Stopped lf rest at end) where
   abbrev line : List ℕ

@@ -9,22 +9,30 @@ use native.Mathlib.Omega.{arith}
 use borrow.Author.Tests.{le-leb, lt-leb, lt-ltb, le-ltb}
 use lib.Dec.{leb}
 use lib.IntN.{ℤ, pos}
-use lib.ListN.{length, drop, set, drop_of_length-le, length-append}
+use lib.ListN.{length, take, drop, set, drop_of_length-le, length-append}
 use lib.Seq.{sets, sets-eq}
 use Rattle.rules.specs.declared.Reading.{Reading}
 use Rattle.rules.specs.declared.Reading.TheVariants.{Words, Faulty, Refused}
 use Rattle.rules.specs.Lists.{also, keep, flat, over}
-use Rattle.rules.specs.Text.{tokens, lines, stated, sharp, Items, moved_names, items_of, first_bad, option_words, text_words, words_of, unread, read_into, read_stated, read_lines, read_call}
+use Rattle.rules.specs.Text.{tokens, lines, stated, sharp, before_bar, Items, moved_names, items_of, first_bad, option_words, text_words, words_of, unread, read_into, read_stated, read_lines, read_call}
 use Rattle.text.specs.declared.lines.Checked.{Checked}
 use Rattle.text.specs.declared.lines.Checked.TheVariants as CheckedSays
 use Rattle.text.specs.declared.lines.Found.{Found}
 use Rattle.text.specs.declared.lines.Found.TheVariants as FoundSays
 use Rattle.text.specs.Scan.{part, one_after}
+use Rattle.text.specs.Names.{Barred}
 use Rattle.text.specs.Read.{known, options_words, FoundAt, Finds, CheckedAre, Checks, words_under, under_options, under_items, heads}
-use Rattle.text.proofs.Tests.{lt_or_le}
+use Rattle.text.proofs.Tests.{empty, lt_or_le}
 use Rattle.text.proofs.Pieces.{part_end}
 
 -- ---- places
+
+pub after_within : {at n r : ℕ} → at ≤ n → r ≡ one_after at n → r ≤ n
+after_within {at} {n} {r} h e = by (lt_or_le at n)
+  where
+    by : (at < n) ⊎ (n ≤ at) → r ≤ n
+    by (inl k) = let u : r ≡ at + 1 = e ∙ rw (lt-ltb at n k) refl in omega arith
+    by (inr k) = let u : r ≡ at = e ∙ rw (le-ltb at n k) refl in omega arith
 
 -- what stands after a place
 pub rest_after : (s : List ℕ) (at : ℕ) {r : ℕ} → r ≡ one_after at (length s) → part s r (length s) ≡ drop (at + 1) s
@@ -35,6 +43,11 @@ rest_after s at {r} e = part_end s r ∙ ap (λ (n : ℕ). drop n s) e ∙ by (l
     by (inr k) =
         let m : length s ≤ at + 1 = omega arith in
         rw (le-ltb at (length s) k) (drop_of_length-le s k ∙ sym (drop_of_length-le s m))
+
+pub items_same : (front : Bool) (items : List ℕ) {bar after : ℕ} → Barred items bar → after ≡ one_after bar (length items) → known front (take bar items) (part items after (length items)) ≡ items_of front (tokens items)
+items_same front items {bar} {after} B e =
+    ap (λ (ts : List (List ℕ)). record { primary = moved_names front ts; secondary = tokens (part items after (length items)) }) B.before
+    ∙ ap (λ (ts : List (List ℕ)). record { primary = moved_names front (before_bar (tokens items)); secondary = ts }) (ap tokens (rest_after items bar e) ∙ B.after)
 
 -- ---- the words written
 
@@ -88,12 +101,21 @@ unfolding text_words
 text_long I st = omega arith
 
 module _ (front : Bool) (I : Items) (k : ℕ) (rest : List ℕ) (ws : List ℤ) {r : Checked} (C : Checks front I k rest r) where
+  pub checked_faulty : {j : ℕ} → r ≡ CheckedSays.Faulty j → unread (Faulty j) ws ≡ under_options front I k rest ws
+  checked_faulty {j} e =
+      let h : (1 ≤ j) × (first_bad front k (some I) (lines rest) ≡ j) = subst (λ (x : Checked). Checks front I k rest x) e C in
+      faulty_lines j (words_under I (stated (lines rest))) ws h.0 ∙ ap (λ (n : ℕ). read_lines n (words_under I (stated (lines rest))) ws) (sym h.1)
+
   module _ {m w : ℕ} (e : r ≡ CheckedSays.Are m w) where
     pub checked_are : CheckedAre front I k rest m w
     checked_are = subst (λ (x : Checked). Checks front I k rest x) e C
 
     lines_fine : under_options front I k rest ws ≡ read_stated (words_under I (stated (lines rest))) ws
     lines_fine = ap (λ (n : ℕ). read_lines n (words_under I (stated (lines rest))) ws) checked_are.faultless
+
+    pub checked_none : m ≡ 0 → unread (Faulty 0) ws ≡ under_options front I k rest ws
+    checked_none z =
+        sym (lines_fine ∙ ap (λ (st : List (List (List ℕ))). read_stated (words_under I st) ws) (empty (stated (lines rest)) (checked_are.options_are ∙ z)))
 
     new_long : length (text_words I (stated (lines rest))) ≡ 3 + w
     unfolding options_words

@@ -25,6 +25,16 @@ pub record Counting (line : List ℕ) (n at : ℕ) : Type 0 where
   pub few : n ≤ length line
   pub same : length (tokens line) ≡ n + length (tokens (drop at line))
 
+pub count_start : (line : List ℕ) → Counting line 0 0
+count_start line = record { within = omega arith; few = omega arith; same = omega arith }
+
+pub token_empty : (u : List ℕ) → length u ≡ 0 → 0 ≡ length (token_if u)
+token_empty u e = sym (ap (λ (l : List ℕ). length (token_if l)) (empty u e))
+
+pub token_some : (u : List ℕ) → (length u ≡ 0 → ⊥) → 1 ≡ length (token_if u)
+token_some [] n = absurd (n refl)
+token_some (b ∷ u) n = refl
+
 module _ {line : List ℕ} {n at end : ℕ} (I : Counting line n at) (S : Stopped white line at end) where
   pub count_turn : {k : ℕ} → k ≡ length (token_if (part line at end)) → Counting line (n + k) (end + 1)
   count_turn {k} e =
@@ -126,6 +136,9 @@ stands_not t line e u = sym (placed_has 0 t (tokens line) ∙ ap is_at (sym (pla
 
 -- ---- one token
 
+pub of_class : {a b : Class} (u : List ℕ) {r : Bool} → a ≡ b → r ≡ admits b u → r ≡ admits a u
+of_class u e h = rw e h
+
 module _ (class : Class) (t : List ℕ) (k : ℕ) where
   pub look_empty : (u : List ℕ) → length u ≡ 0 → Past k ≡ looked class u t k
   unfolding looked placed keep
@@ -155,6 +168,9 @@ pub record Finding (line : List ℕ) (class : Class) (t : List ℕ) (from k at :
   pub within : k ≤ from + at
   pub few : k ≤ from + length line
   pub same : placed from t (keep (admits class) (tokens line)) ≡ placed k t (keep (admits class) (tokens (drop at line)))
+
+pub find_start : (line : List ℕ) (class : Class) (t : List ℕ) (from : ℕ) → Finding line class t from from 0
+find_start line class t from = record { within = omega arith; few = omega arith; same = refl }
 
 pub low_at : {n m : ℕ} {r : Place} → r ≡ At m → LowPlace n r → m ≤ n
 low_at {n} e h = subst (λ (p : Place). LowPlace n p) e h

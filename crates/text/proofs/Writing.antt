@@ -33,6 +33,9 @@ pub record Putting (all ahead w₀ w : List ℤ) (place next : ℕ) : Type 0 whe
   pub counted : place + length all ≡ next + length ahead
   pub long : length w ≡ length w₀
 
+pub put_start : (all w : List ℤ) (place : ℕ) → Putting all all w w place place
+put_start all w place = record { same = refl; counted = refl; long = refl }
+
 module _ {all ahead w₀ w : List ℤ} {place next : ℕ} (P : Putting all ahead w₀ w place next) (new later : List ℤ) (e : ahead ≡ new ++ later) where
   pub put_room : place + length all ≤ length w₀ → next + length new ≤ length w
   put_room h = let l = P.long in let c = P.counted in omega (arith, ap length e ∙ length-append new later)
