@@ -1,4 +1,4 @@
-//! Links `libdoor.a` from the folder that DOOR_FOLDER names. `rt staticlib door` writes it to `target/staticlib`.
+//! Links `libdoor.a` from the folder that DOOR_FOLDER names. `tools/archives` writes it to `target/staticlib`.
 
 fn main() {
     println!("cargo:rerun-if-env-changed=DOOR_FOLDER");

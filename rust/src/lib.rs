@@ -8,7 +8,7 @@
 //! byte of the output are those that the definition says. This crate is not proved: it writes the words and reads the
 //! answer. The archive is for x86-64 Linux; a call takes some 11 KB of stack and no heap.
 //!
-//! To build: `rt staticlib door` in the folder above, then `DOOR_FOLDER=../target/staticlib cargo test` here. On another
+//! To build: `tools/archives` in the folder above, then `DOOR_FOLDER=../target/staticlib cargo test` here. On another
 //! processor `eval "$(../oracle/cross)"` first, and `cargo test --lib --tests`, since the examples in comments need a
 //! rustdoc for x86-64.
 //!
