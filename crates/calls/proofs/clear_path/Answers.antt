@@ -1,9 +1,9 @@
 use mathlib.Core.Path.{◌≡◌}
-use Prim.Native.Nat.{◌-◌, ◌≤◌, ◌<◌}
+use Prim.Native.Nat.{◌<◌}
 use native.Mathlib.Omega.{arith}
 use lib.IntN.{pos}
 use lib.ListN.{length}
-use Rattle.calls.proofs.Tests.{Filled, filled_long, fill_none, fill_next, fill_end}
+use Rattle.calls.proofs.Tests.{filled_long, fill_none, fill_next, fill_end}
 use Rattle.calls.proofs.clear_path.Goals as goal
 
 pub loop-k-init : goal.loop-k-init
@@ -19,7 +19,7 @@ pub loop-k-smaller : goal.loop-k-smaller
 loop-k-smaller c = omega arith
 
 pub loop-k-preserved : goal.loop-k-preserved
-loop-k-preserved c = 
+loop-k-preserved c =
     (fill_next (pos 0) _ c.loop-k.invariant.0 (let h : c.loop-k.k < length c.args.path.now = omega (arith, c.requires) in h) c.put_link.ensures, omega arith)
 
 pub shape_of-path : goal.shape_of-path

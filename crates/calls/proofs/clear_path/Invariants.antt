@@ -1,9 +1,6 @@
-use mathlib.Core.Path.{◌≡◌}
-use Prim.Native.Nat.{◌-◌, ◌≤◌, ◌<◌}
-use native.Mathlib.Omega.{arith}
+use Prim.Native.Nat.{◌-◌, ◌≤◌}
 use lib.IntN.{pos}
-use lib.ListN.{length}
-use Rattle.calls.proofs.Tests.{Filled, filled_long, fill_none, fill_next, fill_end}
+use Rattle.calls.proofs.Tests.{Filled}
 use Rattle.calls.proofs.clear_path.Given as goal
 
 abbrev pub invariant-loop-k : goal.invariant-loop-k

@@ -1,8 +1,8 @@
 use mathlib.Core.Path.{◌≡◌, refl}
-use Prim.Native.Nat.{◌-◌, ◌≤◌, ◌<◌}
+use Prim.Native.Nat.{◌<◌}
 use native.Mathlib.Omega.{arith}
 use lib.ListN.{length}
-use Rattle.calls.proofs.Tests.{Filled, filled_long, fill_none, fill_next, fill_end}
+use Rattle.calls.proofs.Tests.{filled_long, fill_none, fill_next, fill_end}
 use Rattle.calls.proofs.clear_profile.Goals as goal
 
 pub loop-k-init : goal.loop-k-init

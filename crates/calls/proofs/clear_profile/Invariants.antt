@@ -1,8 +1,5 @@
-use mathlib.Core.Path.{◌≡◌, refl}
-use Prim.Native.Nat.{◌-◌, ◌≤◌, ◌<◌}
-use native.Mathlib.Omega.{arith}
-use lib.ListN.{length}
-use Rattle.calls.proofs.Tests.{Filled, filled_long, fill_none, fill_next, fill_end}
+use Prim.Native.Nat.{◌-◌, ◌≤◌}
+use Rattle.calls.proofs.Tests.{Filled}
 use Rattle.calls.proofs.clear_profile.Given as goal
 
 abbrev pub invariant-loop-k : goal.invariant-loop-k

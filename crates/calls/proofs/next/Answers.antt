@@ -11,25 +11,24 @@ use Rattle.calls.proofs.Entry.{stops, goes}
 use Rattle.calls.proofs.Outcomes.{next_refused, next_ran}
 use Rattle.search.specs.Meant.{np_meant}
 use Rattle.calls.proofs.Points.{begun, fronts}
-use borrow.Author.Rules.{rules}
 use Rattle.calls.proofs.next.Goals as goal
 
 pub test-requires : goal.test-requires
 test-requires c = omega arith
 
 pub run_fronts-requires : goal.run_fronts-requires
-run_fronts-requires c = 
+run_fronts-requires c =
     let g = goes c.test.ensures c.in-Sized.is in
     fronts c.args.problem.now _ _ _ c.args.profile.now c.args.found.now c.args.state g.is_laid (omega (arith, g.lists)) (omega (arith, g.lists)) g.fit g.at
 
 pub returns-in-Refused : goal.returns-in-Refused
-returns-in-Refused c = 
+returns-in-Refused c =
     let X = rw c.shorter-more.ensures at c.test.ensures in
     let (x, y) = stops X c.in-Refused.is in
     next_refused c.args.problem.now (record { table = c.args.table.now; spare = c.args.spare.now; path = c.args.path.now; profile = c.args.profile.now; found = c.args.found.now }) c.args.state c.args.allowance _ _ x y X.spare_is
 
 pub returns-in-Sized : goal.returns-in-Sized
-returns-in-Sized c = 
+returns-in-Sized c =
     let X = rw c.shorter-more.ensures at c.test.ensures in
     let g = goes X c.in-Sized.is in
     let L = g.is_laid in

@@ -3,7 +3,6 @@ use Prim.Native.Nat.{ℕ}
 use lib.ListN.{take}
 use lib.Seq.{length-take-le}
 use Rattle.calls.proofs.Tests.{front_part}
-use borrow.Author.Rules.{rules}
 use Rattle.calls.proofs.report.Goals as goal
 
 pub slice_bounds-result-end : goal.slice_bounds-result-end

@@ -1,6 +1,5 @@
 use mathlib.Core.Path.{sym, ap, ◌∙◌}
 use native.Mathlib.Omega.{arith}
-use borrow.Author.Rules.{rules}
 use Rattle.rules.specs.declared.State.{State}
 use Rattle.rules.specs.Order.{pick}
 use Rattle.rules.specs.Walk.{resume}
@@ -20,7 +19,7 @@ write_found-requires c = let w = resume c.requires.some_begun.0 (pick c.requires
     record { some_on = (c.requires.some_begun.0, w.at, on_level R.on d); depth_in_bounds = omega (arith, d, level_within R.on, c.go-answer.auto.path, c.requires.path_in_bounds) }
 
 pub returns-in-Solution : goal.returns-in-Solution
-returns-in-Solution c = 
+returns-in-Solution c =
     λ P v B.
     let w = resume P (pick P) c.args.allowance c.args.state.phase v in
     let R = c.go-answer.ensures P v B in
@@ -29,7 +28,7 @@ returns-in-Solution c =
     record { ran = record { answer = sym c.in-Solution.is ∙ R.answer; on = R.on; profile_is = R.profile_is }; found_is = c.write_found.ensures P w.at (on_level R.on d) ∙ wrote w c.args.found.now e.0 }
 
 pub returns-in_default : goal.returns-in_default
-returns-in_default c = 
+returns-in_default c =
     λ P v B.
     let R = c.go-answer.ensures P v B in
-    record { ran = R; found_is = unwritten (resume P (pick P) c.args.allowance c.args.state.phase v) (started c.args.state) c.args.found.now R.answer c.in_default.keys2 }
+    record { ran = R; found_is = unwritten (resume P (pick P) c.args.allowance c.args.state.phase v) (started c.args.state) c.args.found.now R.answer c.in_default.not-Solution }

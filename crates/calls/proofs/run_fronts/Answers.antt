@@ -1,7 +1,6 @@
 use mathlib.Core.Path.{sym, ◌∙◌}
 use Prim.Native.Nat.{◌≤◌}
 use native.Mathlib.Omega.{arith}
-use borrow.Author.Rules.{rules}
 use lib.ListN.{length}
 use lib.Seq.{length-take-le}
 use Rattle.calls.proofs.Outcomes.{over_part}
@@ -15,9 +14,6 @@ overflow_add-n c = omega (arith, c.requires.small)
 
 pub slice_bounds-run-end : goal.slice_bounds-run-end
 slice_bounds-run-end c = omega (arith, c.table_words-words.ensures, c.requires.table_room)
-
-pub slice_bounds-run-end-2 : goal.slice_bounds-run-end-2
-slice_bounds-run-end-2 c = sym (length-take-le _ _ (slice-relend-prefix-run c.before))
 
 pub slice_bounds-run-end-3 : goal.slice_bounds-run-end-3
 slice_bounds-run-end-3 c = c.requires.path_room
@@ -37,7 +33,7 @@ run-requires c = let lp = length-take-le c.args.s.np c.args.path.now c.requires.
     record { updates_le_cap = c.requires.updates_fit; profile = record { long = lr ∙ sym lp; small = c.requires.profile_fits }; some_begun = rw c.table_words-words.ensures c.requires.begun; path_in_bounds = omega (arith, c.requires.found_room) }
 
 pub returns : goal.returns
-returns c = 
+returns c =
     λ P v B.
     let W = c.run.ensures P v (rw c.table_words-words.ensures B) in
     record {

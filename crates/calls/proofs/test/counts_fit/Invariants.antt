@@ -1,12 +1,9 @@
-use mathlib.Core.Path.{◌≡◌, refl}
-use Prim.Native.Nat.{ℕ, ◌-◌, ◌≤◌}
-use native.Mathlib.Omega.{arith}
-use borrow.Author.Rules.{rules}
+use mathlib.Core.Path.{◌≡◌}
+use Prim.Native.Nat.{◌-◌, ◌≤◌}
 use lib.Dec.{leb}
 use lib.ListN.{length, drop}
 use Rattle.rules.specs.Lists.{each}
-use Rattle.rules.specs.Calls.{cap, counts_fit}
-use Rattle.calls.proofs.Tests.{fails, holds, each_next, each_stop, each_end, and_first, and_second, and_true}
+use Rattle.rules.specs.Calls.{cap}
 use Rattle.calls.proofs.test.counts_fit.Given as goal
 
 abbrev pub invariant-loop-k : goal.invariant-loop-k

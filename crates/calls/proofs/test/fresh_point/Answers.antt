@@ -1,6 +1,5 @@
 use mathlib.Core.Path.{◌∙◌}
 use native.Mathlib.Omega.{arith}
-use borrow.Author.Rules.{rules}
 use Rattle.rules.specs.Problem.{cut, meant}
 use Rattle.calls.proofs.Points.{testing}
 use Rattle.calls.proofs.test.fresh_point.Goals as goal
@@ -12,7 +11,7 @@ pub overflow_add-s : goal.overflow_add-s
 overflow_add-s c = omega (arith, c.requires.small.0)
 
 pub test_point-requires : goal.test_point-requires
-test_point-requires c = 
+test_point-requires c =
     (meant (cut c.args.problem.now), testing _ _ _ _ _ _ c.requires c.init_links.auto.t c.init_links.ensures)
 
 pub returns : goal.returns
