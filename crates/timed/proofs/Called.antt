@@ -1,18 +1,14 @@
 -- Single calls of Next, one by one. Assumes nothing.
 use mathlib.Core.Path.{◌≡◌, refl, sym, ap, ◌∙◌}
-use mathlib.Core.List.{List, [], ◌∷◌}
+use mathlib.Core.List.{List}
 use Prim.Native.Nat.{ℕ, suc, ◌+◌, ◌-◌, ◌≤◌, ◌<◌}
 use native.Mathlib.Omega.{arith}
-use denote.Enum.Declared as Declared
 use lib.IntN.{ℤ}
-use types.Run.{OneOf}
 use Rattle.rules.specs.declared.NextAnswer.{NextAnswer}
-use Rattle.rules.specs.contracts.NextAnswer as NextTypes
 use Rattle.rules.specs.declared.NextAnswer.TheVariants as NextSays
 use Rattle.rules.specs.declared.State.{State}
 use Rattle.rules.specs.Problem.{library_limits}
 use Rattle.rules.specs.Calls.{blank, NextLent, NextOutcome, next_call}
-use Rattle.search.specs.Arrived.{other}
 use Rattle.timed.specs.Timed.{largest, NextTimed, counting, past, next_timed}
 
 -- the calls from the blank state are the calls from here, after these solutions
@@ -27,8 +23,8 @@ call_start ws most l =
     let e : most ≡ most - 0 = omega arith in
     record { within = omega arith; same = ap (λ (k : ℕ). record { result = k; lent = x.lent }) u ∙ ap (λ (k : ℕ). counting 0 (next_timed ws k l blank)) e }
 
-ended : (r : NextAnswer) → OneOf (1 ∷ 2 ∷ 3 ∷ []) (Declared.tag_of NextTypes.the_type r) → (l : NextLent) (later : State → NextTimed) → past r l later ≡ record { result = 0; lent = l }
-ended (NextSays.Solution st v) k l later = absurd (other k)
+ended : (r : NextAnswer) → ((at : State) (n : ℕ) → r ≡ NextSays.Solution at n → ⊥) → (l : NextLent) (later : State → NextTimed) → past r l later ≡ record { result = 0; lent = l }
+ended (NextSays.Solution st v) k l later = absurd (k st v refl)
 ended (NextSays.Exhausted st v) k l later = refl
 ended (NextSays.Paused st v) k l later = refl
 ended (NextSays.Refused st n) k l later = refl
@@ -51,7 +47,7 @@ module _ {ws : List ℤ} {most : ℕ} {l₀ l : NextLent} {st : State} {solution
         C.same ∙ ap (λ (k : ℕ). counting solutions (next_timed ws k l st)) e
         ∙ ap (λ (x : NextOutcome). counting solutions (past x.answer x.lent (λ at. next_timed ws (most - (solutions + 1)) x.lent at))) (sym o)
 
-    pub call_ends : OneOf (1 ∷ 2 ∷ 3 ∷ []) (Declared.tag_of NextTypes.the_type r) → record { result = solutions; lent = l' } ≡ next_timed ws most l₀ blank
+    pub call_ends : ((at : State) (n : ℕ) → r ≡ NextSays.Solution at n → ⊥) → record { result = solutions; lent = l' } ≡ next_timed ws most l₀ blank
     call_ends k =
         let u : solutions ≡ solutions + 0 = omega arith in
         ap (λ (k : ℕ). record { result = k; lent = l' }) u ∙ sym (called ∙ ap (counting solutions) (ended r k l' (λ at. next_timed ws (most - (solutions + 1)) l' at)))

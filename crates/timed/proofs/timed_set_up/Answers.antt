@@ -2,7 +2,6 @@ use mathlib.Core.Path.{sym, ap}
 use Rattle.rules.specs.declared.SetUpAnswer.{SetUpAnswer}
 use Rattle.rules.specs.Calls.{set_up_said}
 use Rattle.timed.proofs.Walked.{set_up_is}
-use borrow.Author.Rules.{rules}
 use Rattle.timed.proofs.timed_set_up.Goals as goal
 
 pub returns-in-SetUp : goal.returns-in-SetUp
