@@ -1,12 +1,13 @@
 -- Loops over a list, and tests that the code branches on. Assumes nothing.
 use mathlib.Core.Path.{◌≡◌, refl, sym, ap, ◌∙◌}
-use mathlib.Core.Bool.{Bool, true, false, ◌&&◌, cond}
+use mathlib.Core.Bool.{Bool, true, false, not, ◌&&◌, cond}
 use mathlib.Core.List.{List, [], ◌∷◌, ◌++◌, append_assoc}
-use Prim.Native.Nat.{ℕ, zero, suc, ◌+◌, ◌≤◌, ◌<◌}
+use Prim.Native.Nat.{ℕ, zero, suc, ◌+◌, ◌-◌, ◌≤◌, ◌<◌}
 use native.Mathlib.Omega.{arith}
 use native.Mathlib.Numerals.{add-one}
 use lib.Dec.{leb}
 use lib.IntN.{ℤ}
+use borrow.Author.Tests.{not-true, not-false}
 use lib.ListN.{length, get_or, set, take, drop, replicate, drop_of_length-le, length-append, length-drop, length-replicate}
 use lib.Seq.{drop-cons, set_at}
 use Rattle.rules.specs.declared.Phase.{Phase}
@@ -14,6 +15,13 @@ use Rattle.rules.specs.declared.Phase.TheVariants.{Ready, Solution, Done}
 use Rattle.rules.specs.Lists.{each, over}
 use Rattle.rules.specs.Calls.{report_part}
 use Rattle.calls.specs.Tested.{front_at}
+
+-- where the code branches on the test's negation
+pub fails : {r x : Bool} → r ≡ x → not r ≡ true → x ≡ false
+fails {r} e t = sym e ∙ not-true r t
+
+pub holds : {r x : Bool} → r ≡ x → not r ≡ false → x ≡ true
+holds {r} e t = sym e ∙ not-false r t
 
 pub and_first : {a : Bool} (b : Bool) → a ≡ false → false ≡ (a && b)
 and_first b e = rw e
