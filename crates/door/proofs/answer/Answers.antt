@@ -1,17 +1,16 @@
 use native.Mathlib.Omega.{arith}
 use Rattle.rules.specs.Problem.{cut, meant}
 use Rattle.door.proofs.Outcomes.{stops, goes, answer_refused, answer_walked}
-use borrow.Author.Rules.{rules}
 use Rattle.door.proofs.answer.Goals as goal
 
 pub solve-requires : goal.solve-requires
-solve-requires c = 
+solve-requires c =
     (goes _ c.args.out.now c.door.ensures c.lists_of-lists.ensures _ c.accept.ensures (omega arith) c.in-Sized.is).1
 
 pub returns-in-Refused : goal.returns-in-Refused
-returns-in-Refused c = 
+returns-in-Refused c =
     let x = stops c.args.problem.now c.args.out.now c.door.ensures c.lists_of-lists.ensures _ c.accept.ensures (omega arith) c.in-Refused.is in answer_refused (meant (cut c.args.problem.now)) c.args.number c.args.allowance c.args.out.now x.0 x.1
 
 pub returns-in-Sized : goal.returns-in-Sized
-returns-in-Sized c = 
+returns-in-Sized c =
     answer_walked (meant (cut c.args.problem.now)) c.args.number c.args.allowance c.args.out.now (goes c.args.problem.now c.args.out.now c.door.ensures c.lists_of-lists.ensures _ c.accept.ensures (omega arith) c.in-Sized.is).0 c.solve.ensures

@@ -2,7 +2,6 @@ use mathlib.Core.Path.{◌≡◌, sym, ap, ◌∙◌}
 use mathlib.Core.List.{List}
 use native.Mathlib.Omega.{arith}
 use borrow.Author.Rules.{rules}
-use borrow.Author.Tests.{not-true, not-false}
 use lib.Dec.{leb}
 use lib.Signed.{non_neg}
 use Prim.Native.Nat.{ℕ, ◌/◌}
@@ -10,16 +9,18 @@ use lib.IntN.{ℤ, pos}
 use lib.ListN.{length}
 use Rattle.rules.specs.Words.{word, bytes_words}
 use Rattle.door.proofs.Bytes.{words_long, word_at}
-use Rattle.door.proofs.Cutting.{Cutting, cut_start, cut_past, cut_negative, cut_short, cut_turn, cut_stop}
+use Rattle.door.proofs.Cutting.{cut_start, cut_past, cut_negative, cut_short, cut_turn, cut_stop}
+use Rattle.door.proofs.is_whole.Goals.{After-take_word, After-link_at-k}
 use Rattle.door.proofs.is_whole.Goals as goal
 
 -- the word read is the option's count
-word_is : (q : goal.After-take_word) → word q.take_word.new.t 0 ≡ word (bytes_words q.args.bytes.now) q.loop-ahead.at
+word_is : (q : After-take_word) → word q.take_word.new.t 0 ≡ word (bytes_words q.args.bytes.now) q.loop-ahead.at
 word_is q = ap (λ (l : List ℤ). word l 0) q.take_word.ensures ∙ sym (word_at q.args.bytes.now q.loop-ahead.at (omega arith))
 
-count_is : (q : goal.After-link_at-k)
+count_is : (q : After-link_at-k)
     → word (bytes_words q.args.bytes.now) q.loop-ahead.at ≡ pos q.link_at-k.result
-count_is q = sym (word_is q.before.before.before.before.before.before) ∙ q.link_at-k.ensures.word_is
+count_is q =
+    sym (ap (λ (l : List ℤ). word l 0) q.take_word.ensures ∙ sym (word_at q.args.bytes.now q.loop-ahead.at (omega arith))) ∙ q.link_at-k.ensures.word_is
 
 pub loop-ahead-init : goal.loop-ahead-init
 loop-ahead-init c = cut_start (bytes_words c.args.bytes.now) c.args.m (omega (arith, (words_long c.args.bytes.now).1, c.requires))
@@ -34,11 +35,11 @@ pub take_word-requires : goal.take_word-requires
 take_word-requires c = record { at_in_bounds = omega arith; k_in_bounds = omega arith }
 
 pub returns-then-not-is_natural : goal.returns-then-not-is_natural
-returns-then-not-is_natural c = 
-    cut_negative c.loop-ahead.invariant (omega arith) (omega (arith, (words_long c.args.bytes.now).1)) (ap non_neg (sym (word_is c.before.before.before.before)) ∙ sym c.is_natural.ensures ∙ not-true _ c.if-not-is_natural.true)
+returns-then-not-is_natural c =
+    cut_negative c.loop-ahead.invariant (omega arith) (omega (arith, (words_long c.args.bytes.now).1)) (ap non_neg (sym (word_is (goal.at.returns-then-not-is_natural c).After-take_word)) ∙ sym c.is_natural.ensures ∙ c.if-not-is_natural.true)
 
 pub link_at-k-requires : goal.link_at-k-requires
-link_at-k-requires c = record { a_in_bounds = search rules; natural = rw (sym c.is_natural.ensures ∙ not-false _ c.if-not-is_natural.false) tt }
+link_at-k-requires c = record { a_in_bounds = search rules; natural = rw (sym c.is_natural.ensures ∙ c.if-not-is_natural.false) tt }
 
 pub overflow_sub-words : goal.overflow_sub-words
 overflow_sub-words c = omega arith
@@ -50,8 +51,8 @@ pub overflow_mul-k : goal.overflow_mul-k
 overflow_mul-k c = omega (arith, c.link_at-k.ensures.small)
 
 pub returns-then-words-at-2 : goal.returns-then-words-at-2
-returns-then-words-at-2 c = 
-    cut_short c.loop-ahead.invariant (omega arith) (omega (arith, (words_long c.args.bytes.now).1)) c.link_at-k.result (count_is c.before) (omega (arith, (words_long c.args.bytes.now).0, (words_long c.args.bytes.now).1))
+returns-then-words-at-2 c =
+    cut_short c.loop-ahead.invariant (omega arith) (omega (arith, (words_long c.args.bytes.now).1)) c.link_at-k.result (count_is (goal.at.returns-then-words-at-2 c).After-link_at-k) (omega (arith, (words_long c.args.bytes.now).0, (words_long c.args.bytes.now).1))
 
 pub overflow_mul-at-in-loop-ahead : goal.overflow_mul-at-in-loop-ahead
 overflow_mul-at-in-loop-ahead c = omega (arith, c.link_at-k.ensures.small)
@@ -69,8 +70,8 @@ pub loop-ahead-smaller : goal.loop-ahead-smaller
 loop-ahead-smaller c = omega arith
 
 pub loop-ahead-preserved : goal.loop-ahead-preserved
-loop-ahead-preserved c = 
-    cut_turn c.loop-ahead.invariant (omega arith) (omega (arith, (words_long c.args.bytes.now).1)) c.link_at-k.result (count_is c.before) (omega (arith, (words_long c.args.bytes.now).0, (words_long c.args.bytes.now).1))
+loop-ahead-preserved c =
+    cut_turn c.loop-ahead.invariant (omega arith) (omega (arith, (words_long c.args.bytes.now).1)) c.link_at-k.result (count_is (goal.at.loop-ahead-preserved c).After-link_at-k) (omega (arith, (words_long c.args.bytes.now).0, (words_long c.args.bytes.now).1))
 
 pub returns : goal.returns
 returns c = ap (λ (i : ℕ). leb i c.loop-ahead.at) (let e : length c.args.bytes.now / 4 ≡ length (bytes_words c.args.bytes.now) = omega (arith, (words_long c.args.bytes.now).0, (words_long c.args.bytes.now).1) in e) ∙ cut_stop c.loop-ahead.invariant (omega arith)

@@ -1,7 +1,6 @@
 use mathlib.Core.Path.{◌≡◌, sym, ap, ◌∙◌}
 use native.Mathlib.Omega.{arith}
 use Prim.Native.Nat.{◌<◌}
-use borrow.Author.Tests.{not-true, not-false}
 use lib.ListN.{length, take}
 use lib.Signed.{non_neg}
 use Rattle.rules.specs.Words.{word, bytes_words}
@@ -11,39 +10,40 @@ use Rattle.rules.specs.Problem.{door_limits, parts, cut_refusal}
 use Rattle.door.proofs.Bytes.{words_long}
 use Rattle.door.proofs.Cutting.{heads_judged, head_is, whole_is, by_heads, options_natural, by_ns, by_entries, by_cut}
 use borrow.Author.Rules.{rules}
+use Rattle.door.proofs.long_refusal.Goals.{After-number_of-alone, Else-not-is_natural, After-is_whole}
 use Rattle.door.proofs.long_refusal.Goals as goal
 
 -- more words than the limits allow
-long : (q : goal.After-number_of-alone) → 579 < length (bytes_words q.args.problem.now)
+long : (q : After-number_of-alone) → 579 < length (bytes_words q.args.problem.now)
 long q =
     omega (arith, (words_long q.args.problem.now).1, q.requires)
 
-alone : (q : goal.After-number_of-alone) → q.number_of_lem.result ≡ cut_refusal door_limits 1 (take 3 (bytes_words q.args.problem.now))
+alone : (q : After-number_of-alone) → q.number_of-alone.result ≡ cut_refusal door_limits 1 (take 3 (bytes_words q.args.problem.now))
 alone q =
-    q.number_of_lem.ensures _ _ (heads_judged (bytes_words q.args.problem.now) q.door.ensures q.read_words.ensures q.check.ensures.value)
+    q.number_of-alone.ensures _ _ (heads_judged (bytes_words q.args.problem.now) q.door.ensures q.read_words.ensures q.check.ensures.value)
 
-ns_natural : (q : goal.Else-not-is_natural) → non_neg (word (bytes_words q.args.problem.now) 1) ≡ true
+ns_natural : (q : Else-not-is_natural) → non_neg (word (bytes_words q.args.problem.now) 1) ≡ true
 ns_natural q =
-    ap non_neg (sym (head_is (bytes_words q.args.problem.now) 1 (omega arith) q.read_words.ensures)) ∙ sym q.is_natural.ensures ∙ not-false _ q.if-not-is_natural.false
+    ap non_neg (sym (head_is (bytes_words q.args.problem.now) 1 (omega arith) q.read_words.ensures)) ∙ sym q.is_natural.ensures ∙ q.if-not-is_natural.false
 
-found_whole : (q : goal.After-is_whole) → q.is_whole.result ≡ got (parts (bytes_words q.args.problem.now))
+found_whole : (q : After-is_whole) → q.is_whole.result ≡ got (parts (bytes_words q.args.problem.now))
 found_whole q =
     whole_is (bytes_words q.args.problem.now) (sym (head_is (bytes_words q.args.problem.now) 2 (omega arith) q.read_words.ensures) ∙ q.link_at.ensures.word_is) q.is_whole.ensures
 
 pub returns-then-alone-ne4 : goal.returns-then-alone-ne4
-returns-then-alone-ne4 c = by_heads (bytes_words c.args.problem.now) (long c.before) (alone c.before) c.if-alone-ne4.true
+returns-then-alone-ne4 c = by_heads (bytes_words c.args.problem.now) (long (goal.at.returns-then-alone-ne4 c).After-number_of-alone) (alone (goal.at.returns-then-alone-ne4 c).After-number_of-alone) c.if-alone-ne4.true
 
 pub returns-then-not-is_natural : goal.returns-then-not-is_natural
-returns-then-not-is_natural c = 
-    (by_ns (bytes_words c.args.problem.now) (long c.before.before.before.before) (alone c.before.before.before.before) c.if-alone-ne4.false (ap non_neg (sym (head_is (bytes_words c.args.problem.now) 1 (omega arith) c.read_words.ensures)) ∙ sym c.is_natural.ensures ∙ not-true _ c.if-not-is_natural.true), omega arith)
+returns-then-not-is_natural c =
+    (by_ns (bytes_words c.args.problem.now) (long (goal.at.returns-then-not-is_natural c).After-number_of-alone) (alone (goal.at.returns-then-not-is_natural c).After-number_of-alone) c.if-alone-ne4.false (ap non_neg (sym (head_is (bytes_words c.args.problem.now) 1 (omega arith) c.read_words.ensures)) ∙ sym c.is_natural.ensures ∙ c.if-not-is_natural.true), omega arith)
 
 pub link_at-requires : goal.link_at-requires
-link_at-requires c = record { a_in_bounds = search rules; natural = rw (head_is (bytes_words c.args.problem.now) 2 (omega arith) c.read_words.ensures) (options_natural (bytes_words c.args.problem.now) (long c.before.before.before.before.before) (alone c.before.before.before.before.before) c.if-alone-ne4.false) }
+link_at-requires c = record { a_in_bounds = search rules; natural = rw (head_is (bytes_words c.args.problem.now) 2 (omega arith) c.read_words.ensures) (options_natural (bytes_words c.args.problem.now) (long (goal.at.link_at-requires c).After-number_of-alone) (alone (goal.at.link_at-requires c).After-number_of-alone) c.if-alone-ne4.false) }
 
 pub returns-then-is_whole : goal.returns-then-is_whole
-returns-then-is_whole c = 
-    (by_entries (bytes_words c.args.problem.now) (long c.before.before.before.before.before.before.before.before) (alone c.before.before.before.before.before.before.before.before) c.if-alone-ne4.false (ns_natural c.before.before.before.before) (sym c.if-is_whole.true ∙ found_whole c.before), omega arith)
+returns-then-is_whole c =
+    (by_entries (bytes_words c.args.problem.now) (long (goal.at.returns-then-is_whole c).After-number_of-alone) (alone (goal.at.returns-then-is_whole c).After-number_of-alone) c.if-alone-ne4.false (ns_natural (goal.at.returns-then-is_whole c).Else-not-is_natural) (sym c.if-is_whole.true ∙ found_whole (goal.at.returns-then-is_whole c).After-is_whole), omega arith)
 
 pub returns : goal.returns
-returns c = 
-    (by_cut (bytes_words c.args.problem.now) (long c.before.before.before.before.before.before.before.before) (alone c.before.before.before.before.before.before.before.before) c.if-alone-ne4.false (ns_natural c.before.before.before.before) (sym c.if-is_whole.false ∙ found_whole c.before), omega arith)
+returns c =
+    (by_cut (bytes_words c.args.problem.now) (long (goal.at.returns c).After-number_of-alone) (alone (goal.at.returns c).After-number_of-alone) c.if-alone-ne4.false (ns_natural (goal.at.returns c).Else-not-is_natural) (sym c.if-is_whole.false ∙ found_whole (goal.at.returns c).After-is_whole), omega arith)

@@ -1,6 +1,5 @@
 use mathlib.Core.Path.{sym, ◌∙◌}
 use Rattle.problem.specs.Measured.{judged_refused, judged_sized}
-use borrow.Author.Rules.{rules}
 use Rattle.door.proofs.number_of.Goals as goal
 
 pub returns-in-Refused : goal.returns-in-Refused

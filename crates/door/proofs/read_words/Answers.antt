@@ -1,9 +1,9 @@
-use mathlib.Core.Path.{◌≡◌, refl, ap, ◌∙◌}
-use Prim.Native.Nat.{ℕ, ◌-◌}
+use mathlib.Core.Path.{refl, ap, ◌∙◌}
+use Prim.Native.Nat.{ℕ}
 use native.Mathlib.Omega.{arith}
 use Rattle.rules.specs.Words.{bytes_words}
-use lib.ListN.{length, take}
-use Rattle.door.proofs.Bytes.{Reading, read_none, read_next, read_end}
+use lib.ListN.{take}
+use Rattle.door.proofs.Bytes.{read_none, read_next, read_end}
 use Rattle.door.proofs.read_words.Goals as goal
 
 pub loop-k-init : goal.loop-k-init
@@ -22,7 +22,7 @@ pub loop-k-smaller : goal.loop-k-smaller
 loop-k-smaller c = omega arith
 
 pub loop-k-preserved : goal.loop-k-preserved
-loop-k-preserved c = 
+loop-k-preserved c =
     (read_next c.args.bytes.now c.loop-k.words c.loop-k.k c.loop-k.invariant.0 (omega arith) c.take_word.ensures, c.take_word.auto.t ∙ c.loop-k.invariant.1)
 
 pub shape_of-words : goal.shape_of-words

@@ -1,9 +1,7 @@
-use mathlib.Core.Path.{◌≡◌, refl, ap, ◌∙◌}
-use Prim.Native.Nat.{ℕ, ◌-◌}
-use native.Mathlib.Omega.{arith}
-use Rattle.rules.specs.Words.{bytes_words}
-use lib.ListN.{length, take}
-use Rattle.door.proofs.Bytes.{Reading, read_none, read_next, read_end}
+use mathlib.Core.Path.{◌≡◌}
+use Prim.Native.Nat.{◌-◌}
+use lib.ListN.{length}
+use Rattle.door.proofs.Bytes.{Reading}
 use Rattle.door.proofs.read_words.Given as goal
 
 abbrev pub invariant-loop-k : goal.invariant-loop-k

@@ -1,8 +1,6 @@
-use mathlib.Core.Path.{◌≡◌, refl, ◌∙◌, subst}
-use mathlib.Core.List.{List, [], ◌∷◌}
-use Prim.Native.Nat.{ℕ, ◌+◌, ◌*◌, ◌-◌, ◌≤◌}
-use native.Mathlib.Omega.{arith}
-use Rattle.door.proofs.Written.{Put, put_none, put_long, put_more, put_again, put_through, firsts, firsts_long, firsts_next}
+use mathlib.Core.List.{◌∷◌}
+use Prim.Native.Nat.{◌-◌, ◌≤◌}
+use Rattle.door.proofs.Written.{Put, firsts}
 use Rattle.door.proofs.write_out.Given as goal
 
 abbrev pub invariant-loop-k : goal.invariant-loop-k
