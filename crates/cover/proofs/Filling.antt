@@ -3,13 +3,10 @@ use mathlib.Core.Path.{◌≡◌, refl, sym, ap, ◌∙◌, subst}
 use mathlib.Core.List.{List, [], ◌∷◌, ◌++◌, append-nil, append_assoc, map}
 use Prim.Native.Nat.{ℕ, zero, suc, ◌+◌, ◌≤◌, ◌<◌}
 use native.Mathlib.Omega.{arith}
-use denote.Enum.Declared as Declared
 use lib.IntN.{ℤ, pos}
 use lib.ListN.{length, get_or, take, drop, length-append, length-map, get_or-append, get_or-map}
 use lib.Seq.{sets-eq, take_at, length-take-le}
-use types.Run.{OneOf}
 use Rattle.rules.specs.declared.NextAnswer.{NextAnswer}
-use Rattle.rules.specs.contracts.NextAnswer as NextTypes
 use Rattle.rules.specs.declared.NextAnswer.TheVariants as NextSays
 use Rattle.rules.specs.declared.Phase.{Phase}
 use Rattle.rules.specs.declared.Phase.TheVariants.{Solution}
@@ -19,7 +16,7 @@ use Rattle.rules.specs.Words.{word, nat}
 use Rattle.rules.specs.Problem.{Problem}
 use Rattle.rules.specs.Order.{pick}
 use Rattle.rules.specs.Walk.{Level, Walk, End, solution, exhausted, paused, numbers, resume}
-use Rattle.rules.specs.Calls.{cap, capped, profile_from, phase_after, started}
+use Rattle.rules.specs.Calls.{cap, capped, profile_from, phase_after, started, moved, next_answer}
 use Rattle.rules.specs.Cover.{line}
 use Rattle.laws.specs.Lists.{flat_append, cannot}
 use Rattle.laws.specs.Order.{pick_sound}
@@ -29,7 +26,7 @@ use Rattle.knuth.proofs.Walks.{resume_tells}
 use Rattle.knuth.specs.Adds.{resume_spends}
 use Rattle.words.specs.Read.{Natural}
 use Rattle.search.specs.Points.{On, Profile, Ran}
-use Rattle.search.specs.Arrived.{solved, unsolved, on_level}
+use Rattle.search.specs.Arrived.{solved, on_level}
 use Rattle.search.specs.Depth.{level_within}
 use Rattle.cover.specs.Lines.{Put}
 use Rattle.cover.specs.Pages.{Coming, Lined, Filling}
@@ -180,11 +177,12 @@ module _ {P : Problem} {n : ℕ} {all : List (List ℕ)} {t path : List ℤ} {pr
             }
 
     -- a walk that found no solution left none to come
-    pub fill_ends : OneOf (1 ∷ 2 ∷ 3 ∷ []) (Declared.tag_of NextTypes.the_type r) → Lined all out used
+    pub fill_ends : ((at : State) (v : ℕ) → r ≡ NextSays.Solution at v → ⊥) → Lined all out used
     fill_ends k = by piece.end refl
       where
         by : (e : End) → piece.end ≡ e → Lined all out used
-        by solution z = absurd (unsolved piece (started state) R.answer k z)
+        by solution z =
+            absurd (k _ _ (R.answer ∙ ap (λ (x : End). next_answer x (moved (started state) piece) (length piece.visited)) z))
         by paused z = absurd (never_paused z)
         by exhausted z =
             let e : F.left ≡ [] =

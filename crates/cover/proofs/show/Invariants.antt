@@ -12,12 +12,12 @@ use Rattle.cover.proofs.Showing.{more_due, more_some, more_coming, more_sent}
 use Rattle.cover.proofs.show.Given as goal
 
 abbrev pub invariant-loop-sent : goal.invariant-loop-sent
-invariant-loop-sent l = 
-    (length l.initial.page ≡ length l.problem)
-    × (length l.t ≡ length l.initial.t)
+invariant-loop-sent l =
+    (length l.t ≡ length l.initial.t)
     × (length l.path ≡ length l.initial.path)
-    × (length l.profile ≡ 65536)
-    × (l.out < 9223372036854775808 → Paging l.rt (meant (cut l.text)) l.initial.sent l.initial.page l.t l.path l.profile l.out l.sent)
+    × (length l.profile ≡ length l.initial.profile)
+    × (length l.out ≡ 65536)
+    × (l.sent < 9223372036854775808 → Paging l.text (meant (cut l.problem)) l.n l.t l.path l.profile l.out l.sent l.page)
 
 abbrev pub decreases-loop-sent : goal.decreases-loop-sent
-decreases-loop-sent l = 9223372036854775808 - l.out
+decreases-loop-sent l = 9223372036854775808 - l.sent

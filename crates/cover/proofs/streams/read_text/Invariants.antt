@@ -11,7 +11,7 @@ use Rattle.cover.specs.Streams.{GotWithin}
 use Rattle.cover.proofs.streams.read_text.Given as goal
 
 abbrev pub invariant-loop-done : goal.invariant-loop-done
-invariant-loop-done l = (l.done ≤ length l.buf) × (length l.buf ≡ length l.rt)
+invariant-loop-done l = (l.done ≤ length l.buf) × (length l.buf ≡ length l.initial.buf)
 
 abbrev pub decreases-loop-done : goal.decreases-loop-done
 decreases-loop-done l = length l.buf - l.done
