@@ -15,9 +15,11 @@ use Rattle.problem.specs.Sums.{no_sums, total}
 use Rattle.problem.specs.declared.Counted.{Counted}
 use Rattle.problem.proofs.check.Goals as goal
 
+-- the first three words decide nothing
 passed : {L : Limits} {least r : ℕ} {ws : List ℤ} → Heads L least ws r → r ≡ 0 → Heads L least ws 0
 passed H z = rw z at H
 
+-- what the options come to
 came_to : (ws : List ℤ) {np m : ℕ} {r : Counted} → r ≡ total np (cut_options m (drop 3 ws)) no_sums → np ≡ nat (word ws 0) → m ≡ nat (word ws 2)
     → r ≡ total (nat (word ws 0)) (parts ws) no_sums
 unfolding parts

@@ -8,6 +8,7 @@ use Rattle.problem.proofs.HeadLaws.{short, no_primary, lacking_options, negative
 use Rattle.problem.proofs.Tests.{so, natural_if}
 use Rattle.problem.proofs.heads.Goals as goal
 
+-- what each test passed on the way shows
 primary : (c : goal.Else-not-at_least) → le_z (pos 1) (word c.args.ws.now 0) ≡ true
 primary c = sym c.at_least.ensures ∙ c.if-not-at_least.false
 

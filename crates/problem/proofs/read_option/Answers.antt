@@ -11,6 +11,7 @@ use Rattle.problem.specs.Sums.{as_option, met}
 use Rattle.problem.specs.declared.Entries.TheVariants as Entries
 use Rattle.problem.proofs.read_option.Goals as goal
 
+-- whether the option at the cursor is kept, if it has k entries
 abbrev keep : List ℤ → ℕ → ℕ → ℕ → Bool
 keep ws at np k = pairs_kept np (entries_at ws (at + 1) k)
 

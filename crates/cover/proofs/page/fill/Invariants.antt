@@ -13,7 +13,7 @@ use Rattle.cover.proofs.Printing.{put_long}
 use Rattle.cover.proofs.page.fill.Given as goal
 
 abbrev pub invariant-loop-out : goal.invariant-loop-out
-invariant-loop-out l = 
+invariant-loop-out l =
     (length l.t ≡ length l.initial.t)
     × (length l.path ≡ length l.initial.path)
     × (length l.profile ≡ length l.initial.profile)

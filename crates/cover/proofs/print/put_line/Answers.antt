@@ -36,7 +36,7 @@ pub loop-k-smaller : goal.loop-k-smaller
 loop-k-smaller c = omega arith
 
 pub loop-k-preserved : goal.loop-k-preserved
-loop-k-preserved c = 
+loop-k-preserved c =
     line_turn c.loop-k.invariant c.requires.count_in_bounds c.loop-k-test.true c.link_at.ensures.word_is c.separator.ensures c.put_number-next.ensures
 
 pub shape_of-out : goal.shape_of-out

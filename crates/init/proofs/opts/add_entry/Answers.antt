@@ -13,6 +13,7 @@ use Rattle.init.proofs.opts.add_entry.Goals as goal
 abbrev entry : ℕ → ℕ → Entry
 entry item colour = record { item = item; colour = colour }
 
+-- the item's last node so far
 last_was : {n q : ℕ} {t : List ℤ} (item : ℕ) → item < n → Live n q t → Small (word t (up n (item + 1))) q
 last_was item h L = L.last (item + 1) (omega arith) (omega arith)
 

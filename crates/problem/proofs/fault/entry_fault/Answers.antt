@@ -10,6 +10,7 @@ use Rattle.problem.proofs.MarkLaws.{out_of_range, in_range}
 use Rattle.problem.proofs.Tests.{so, natural_if}
 use Rattle.problem.proofs.fault.entry_fault.Goals as goal
 
+-- the item is in range
 passed : (n : ℕ) {w : ℤ} {x : ℕ} {r : Bool} → w ≡ pos x → r ≡ below n w → r ≡ true → ltb x n ≡ true
 passed n e h t = sym (ap (below n) e) ∙ sym h ∙ t
 

@@ -9,6 +9,7 @@ use Rattle.problem.proofs.Tests.{natural_if}
 use Rattle.problem.specs.CutLaws.{pair_at}
 use Rattle.problem.proofs.fault.option_fault.Goals as goal
 
+-- where there is none, its item is in range
 in_range : (c : goal.Else-f-ne0) → T (below c.args.n (word c.args.ws.now c.loop-left.q))
 in_range c =
     item_below c.args.np c.args.n c.loop-left.invariant.seen (pair_at c.args.ws.now c.loop-left.q) (sym c.if-f-ne0.false ∙ c.entry_fault-f.ensures c.loop-left.invariant.seen c.loop-left.invariant.marked)

@@ -3,6 +3,7 @@ use Rattle.problem.proofs.FaultWalk.{searching_start, searching_stop, searching_
 use Rattle.problem.specs.CutLaws.{Turn, in_range, natural, turn}
 use Rattle.problem.proofs.fault.options_fault.Goals as goal
 
+-- the option of the turn
 this : (c : goal.After-link_at-k) → Turn c.args.ws.now c.loop-ahead.at c.loop-ahead.ahead c.link_at-k.result
 this c = turn c.args.ws.now c.loop-ahead.at c.loop-ahead.ahead (omega arith) c.loop-ahead.invariant.whole c.link_at-k.result c.link_at-k.ensures.word_is
 

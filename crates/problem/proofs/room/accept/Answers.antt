@@ -13,6 +13,7 @@ use Rattle.problem.proofs.RoomLaws.{at_words, at_room, at_fault, at_end}
 use Rattle.problem.proofs.room.accept.Goals as goal
 
 -- what the served limits decide
+-- the words' verdict under the limits that the marks leave
 checked : {L L' : Limits} {v : Verdict} (least : ℕ) (ws : List ℤ) → v ≡ verdict L least ws → L ≡ L' → v ≡ verdict L' least ws
 checked least ws e l = e ∙ ap (λ (L : Limits). verdict L least ws) l
 
