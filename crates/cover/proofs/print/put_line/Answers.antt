@@ -1,8 +1,6 @@
-use Prim.Native.Nat.{◌-◌}
 use native.Mathlib.Omega.{arith}
-use borrow.Author.Rules.{rules}
 use lib.ListN.{length-set}
-use Rattle.cover.proofs.Printing.{Lining, line_start, line_turn, line_end, line_none}
+use Rattle.cover.proofs.Printing.{line_start, line_turn, line_end, line_none}
 use Rattle.cover.proofs.print.put_line.Goals as goal
 
 pub bounds-out-at : goal.bounds-out-at
@@ -36,7 +34,7 @@ pub loop-k-smaller : goal.loop-k-smaller
 loop-k-smaller c = omega arith
 
 pub loop-k-preserved : goal.loop-k-preserved
-loop-k-preserved c = 
+loop-k-preserved c =
     line_turn c.loop-k.invariant c.requires.count_in_bounds c.loop-k-test.true c.link_at.ensures.word_is c.separator.ensures c.put_number-next.ensures
 
 pub shape_of-out : goal.shape_of-out

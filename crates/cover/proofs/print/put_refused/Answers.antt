@@ -1,7 +1,6 @@
-use borrow.Author.Rules.{rules}
 use Rattle.cover.proofs.Printing.{refused_put}
 use Rattle.cover.proofs.print.put_refused.Goals as goal
 
 pub returns : goal.returns
-returns c = 
+returns c =
     refused_put c.args.number c.put_bytes-at.ensures c.put_number.ensures
