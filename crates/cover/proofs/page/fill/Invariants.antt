@@ -1,5 +1,3 @@
--- ---- the places that the needs look back to
--- ---- the needs
 use mathlib.Core.List.{List}
 use mathlib.Core.Path.{◌≡◌}
 use Prim.Native.Nat.{ℕ, ◌-◌, ◌≤◌}
