@@ -1,4 +1,3 @@
-use borrow.Author.Rules.{rules}
 use Rattle.cover.proofs.Showing.{top_coming}
 use Rattle.cover.proofs.begin.Goals as goal
 

@@ -1,14 +1,8 @@
--- ---- the places that the needs look back to
--- ---- the needs
-use mathlib.Core.Path.{◌≡◌, refl, sym, ◌∙◌}
-use mathlib.Core.Logic.{inr}
+use mathlib.Core.Path.{◌≡◌}
 use Prim.Native.Nat.{◌-◌, ◌<◌}
-use native.Mathlib.Omega.{arith}
-use borrow.Author.Rules.{rules}
 use lib.ListN.{length}
 use Rattle.rules.specs.Problem.{cut, meant}
-use Rattle.cover.proofs.Showing.{last_write, nearer, turned, stopped, Paging, first_page, last_due, last_sent}
-use Rattle.cover.proofs.Showing.{more_due, more_some, more_coming, more_sent}
+use Rattle.cover.proofs.Showing.{Paging}
 use Rattle.cover.proofs.show.Given as goal
 
 abbrev pub invariant-loop-sent : goal.invariant-loop-sent

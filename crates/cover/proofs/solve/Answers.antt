@@ -1,6 +1,5 @@
 use mathlib.Core.Path.{sym, ◌∙◌}
 use native.Mathlib.Omega.{arith}
-use borrow.Author.Rules.{rules}
 use lib.IntN.{pos}
 use lib.Seq.{length-take-le}
 use Rattle.problem.specs.Measured.{table_bounds}

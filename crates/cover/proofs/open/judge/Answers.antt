@@ -1,5 +1,4 @@
 use native.Mathlib.Omega.{arith}
-use borrow.Author.Rules.{rules}
 use Rattle.cover.proofs.Opening.{judged_here}
 use Rattle.cover.proofs.open.judge.Goals as goal
 

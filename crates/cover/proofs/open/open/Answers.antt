@@ -1,7 +1,6 @@
 use mathlib.Core.Bool.{true}
 use mathlib.Core.Path.{sym}
 use native.Mathlib.Omega.{arith}
-use borrow.Author.Rules.{rules}
 use lib.Seq.{length-take-le}
 use Rattle.knuth.specs.Limits.{long_3}
 use Rattle.cover.proofs.Opening.{count_within, opens_refused, opens_to, opens_faulty, opens_long}

@@ -1,15 +1,9 @@
--- ---- the places that the needs look back to
--- ---- the needs
 use mathlib.Core.List.{List}
-use mathlib.Core.Path.{◌≡◌, refl, ◌∙◌}
-use Prim.Native.Nat.{ℕ, ◌+◌, ◌-◌, ◌≤◌}
-use native.Mathlib.Omega.{arith}
-use borrow.Author.Rules.{rules}
+use mathlib.Core.Path.{◌≡◌}
+use Prim.Native.Nat.{ℕ, ◌-◌, ◌≤◌}
 use lib.ListN.{length}
 use Rattle.rules.specs.Problem.{Problem}
 use Rattle.cover.specs.Pages.{Coming, Filling}
-use Rattle.cover.proofs.Filling.{fill_start, fill_turn, fill_grows, fill_ends, on_there, level_low}
-use Rattle.cover.proofs.Printing.{put_long}
 use Rattle.cover.proofs.page.fill.Given as goal
 
 abbrev pub invariant-loop-out : goal.invariant-loop-out

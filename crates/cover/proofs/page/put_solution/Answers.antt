@@ -1,5 +1,4 @@
 use native.Mathlib.Omega.{arith}
-use borrow.Author.Rules.{rules}
 use Rattle.cover.proofs.Filling.{numbers_natural, line_told}
 use Rattle.cover.proofs.page.put_solution.Goals as goal
 

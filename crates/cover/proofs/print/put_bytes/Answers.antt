@@ -1,7 +1,5 @@
-use Prim.Native.Nat.{◌-◌}
 use native.Mathlib.Omega.{arith}
-use lib.ListN.{length}
-use Rattle.cover.proofs.Printing.{Copying, copy_start, copy_turn, copy_end}
+use Rattle.cover.proofs.Printing.{copy_start, copy_turn, copy_end}
 use Rattle.cover.proofs.print.put_bytes.Goals as goal
 
 pub loop-k-init : goal.loop-k-init

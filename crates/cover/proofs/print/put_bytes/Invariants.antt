@@ -1,7 +1,6 @@
 use Prim.Native.Nat.{◌-◌}
-use native.Mathlib.Omega.{arith}
 use lib.ListN.{length}
-use Rattle.cover.proofs.Printing.{Copying, copy_start, copy_turn, copy_end}
+use Rattle.cover.proofs.Printing.{Copying}
 use Rattle.cover.proofs.print.put_bytes.Given as goal
 
 abbrev pub invariant-loop-k : goal.invariant-loop-k

@@ -1,5 +1,4 @@
 use native.Mathlib.Omega.{arith}
-use borrow.Author.Rules.{rules}
 use Rattle.cover.proofs.Printing.{faulty_put, put_long, number_short}
 use Rattle.cover.proofs.print.put_faulty.Goals as goal
 

@@ -1,8 +1,6 @@
-use Prim.Native.Nat.{◌-◌}
 use native.Mathlib.Omega.{arith}
-use borrow.Author.Rules.{rules}
 use lib.ListN.{length-set}
-use Rattle.cover.proofs.Printing.{Lining, line_start, line_turn, line_end, line_none}
+use Rattle.cover.proofs.Printing.{line_start, line_turn, line_end, line_none}
 use Rattle.cover.proofs.print.put_line.Goals as goal
 
 pub bounds-out-at : goal.bounds-out-at

@@ -1,8 +1,5 @@
 use Prim.Native.Nat.{◌-◌}
-use native.Mathlib.Omega.{arith}
-use borrow.Author.Rules.{rules}
-use lib.ListN.{length-set}
-use Rattle.cover.proofs.Printing.{Lining, line_start, line_turn, line_end, line_none}
+use Rattle.cover.proofs.Printing.{Lining}
 use Rattle.cover.proofs.print.put_line.Given as goal
 
 abbrev pub invariant-loop-k : goal.invariant-loop-k

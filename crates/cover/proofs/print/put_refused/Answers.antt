@@ -1,4 +1,3 @@
-use borrow.Author.Rules.{rules}
 use Rattle.cover.proofs.Printing.{refused_put}
 use Rattle.cover.proofs.print.put_refused.Goals as goal
 

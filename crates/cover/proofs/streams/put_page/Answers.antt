@@ -1,6 +1,5 @@
 use mathlib.Core.Path.{refl, sym}
 use mathlib.Core.Logic.{inl, inr}
-use borrow.Author.Rules.{rules}
 use lib.Seq.{length-take-le}
 use Rattle.cover.proofs.streams.put_page.Goals as goal
 
