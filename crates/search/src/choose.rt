@@ -7,6 +7,7 @@ ghost use Rattle.search.specs.Points.{At, SomeAt, header};
 
 // The header of the item that the order rule takes, 0 where no primary item is open. No item is lighter than one without an option, so the first
 // of these is taken at once.
+#[tactic(auto, using(crate::proofs::Choosing::dead))]
 pub fn choose(t: &[i32], n: usize) -> usize
     requires { SomeAt n t.now }
     ensures { (P : Problem) (s : List Level) → At P n s t.now → result ≡ header (pick P (chosen s)) }

@@ -139,3 +139,7 @@ module _ {ws : List ℤ} {s : Sizes} {l : SetUpLent} (T : Top ws s l) where
       ∙ ap (λ (k : ℕ). profile_from 0 visited (take k l.profile)) (sym (np_meant ws s T.measures)) in
       let z = over_part (profile_from 0 visited (take P.np l.profile)) l.profile profile s.np v c in
       λ i. record { result = k i; lent = record { table = x i; path = y i; profile = z i } }
+
+-- a refusal of set-up is the walk's, as an equation for the tactics
+pub refused_walk : (ws : List ℤ) (l : SetUpLent) (number : ℕ) → ((set_up_timed ws l).result ≡ 0 → ⊥) → walk_timed ws l number ≡ set_up_timed ws l
+refused_walk ws l number n = sym (walk_refused ws l {r = (set_up_timed ws l).result} {l' = (set_up_timed ws l).lent} refl number n)

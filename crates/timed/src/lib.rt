@@ -101,6 +101,7 @@ fn walk_fronts(
 // Set-up, and then the search from the top to solution `number`, from 0, with the largest allowance: 0 there, 20 where there is none, 21 where
 // the allowance is spent, or the number of set-up's refusal.
 #[unsafe(no_mangle)]
+#[tactic(auto, using(crate::proofs::Walked::refused_walk))]
 pub extern "C" fn timed_walk(
     problem: &[i32],
     table: &mut [i32],

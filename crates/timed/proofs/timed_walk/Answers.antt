@@ -1,19 +1,16 @@
-use Rattle.timed.proofs.Walked.{walk_refused, walk_done, not_refused, at_top}
+use native.Mathlib.Omega.{arith}
+use Rattle.timed.proofs.Walked.{walk_done, not_refused, at_top}
 use Rattle.timed.proofs.timed_walk.Goals as goal
-
-pub returns-then-refusal-ne0 : goal.returns-then-refusal-ne0
-returns-then-refusal-ne0 c =
-    walk_refused _ _ c.timed_set_up-refusal.ensures c.args.number c.if-refusal-ne0.true
 
 pub walk_fronts-requires : goal.walk_fronts-requires
 walk_fronts-requires c =
-    (_, at_top _ _ c.timed_set_up-refusal.ensures c.if-refusal-ne0.false c.library.ensures c.check.ensures.value c.in-Sized.is)
+    (_, at_top _ _ c.timed_set_up-refusal.ensures (omega arith) c.library.ensures c.check.ensures.value c.in-Sized.is)
 
 pub returns-in-Refused : goal.returns-in-Refused
 returns-in-Refused c =
-    absurd (not_refused _ _ c.timed_set_up-refusal.ensures c.if-refusal-ne0.false c.library.ensures c.check.ensures.value c.in-Refused.is)
+    absurd (not_refused _ _ c.timed_set_up-refusal.ensures (omega arith) c.library.ensures c.check.ensures.value c.in-Refused.is)
 
 pub returns-in-Sized : goal.returns-in-Sized
 returns-in-Sized c =
-    let T = at_top _ _ c.timed_set_up-refusal.ensures c.if-refusal-ne0.false c.library.ensures c.check.ensures.value c.in-Sized.is in
-    walk_done _ _ c.timed_set_up-refusal.ensures c.if-refusal-ne0.false c.args.number (rw c.number_of.ensures (c.walk_fronts.ensures _ T))
+    let T = at_top _ _ c.timed_set_up-refusal.ensures (omega arith) c.library.ensures c.check.ensures.value c.in-Sized.is in
+    walk_done _ _ c.timed_set_up-refusal.ensures (omega arith) c.args.number (rw c.number_of.ensures (c.walk_fronts.ensures _ T))

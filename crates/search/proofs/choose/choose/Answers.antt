@@ -8,7 +8,7 @@ use Rattle.rules.specs.Order.{open_items}
 use Rattle.rules.specs.Walk.{Level, chosen}
 use Rattle.rules.specs.Links.{first_or}
 use Rattle.search.specs.Points.{At}
-use Rattle.search.proofs.Choosing.{Choosing, Turn, ring_start, none_open, begin, turn, lighter_one, no_lighter, dead, chosen_is}
+use Rattle.search.proofs.Choosing.{Choosing, Turn, ring_start, none_open, begin, turn, lighter_one, no_lighter, chosen_is}
 use Rattle.search.proofs.choose.choose.Goals as goal
 use Rattle.search.proofs.choose.choose.Goals.{then-curr-min, else-curr-min}
 
@@ -43,9 +43,6 @@ pub loop-p-init : goal.loop-p-init
 loop-p-init c = λ P s A.
     let T = first A (c.rlink-i.ensures P _ _ _ (ring_start P _ s _ A)) c.if-i-eq0.false in
     begin P _ s _ A T _ _ (c.rlink-p.ensures P _ _ _ T.ringed) (c.len-min.ensures P _ _ T.headed ∙ T.counts)
-
-pub returns-then-min-eq0 : goal.returns-then-min-eq0
-returns-then-min-eq0 c = λ P s A. dead P _ s _ A (c.loop-p.invariant P s A) c.if-min-eq0.true
 
 pub len-curr-requires : goal.len-curr-requires
 len-curr-requires c =
