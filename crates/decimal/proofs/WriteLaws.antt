@@ -1,7 +1,7 @@
 -- What is written reads back. Assumes nothing.
 use mathlib.Core.Bool.{Bool, true, false, not, ◌&&◌}
 use mathlib.Core.List.{List, [], ◌∷◌, ◌++◌, append-nil}
-use mathlib.Core.Path.{◌≡◌, refl, sym, ◌∙◌}
+use mathlib.Core.Path.{◌≡◌, refl, sym, ap, ◌∙◌}
 use Prim.Native.Nat.{ℕ, zero, suc, ◌+◌, ◌-◌, ◌/◌, ◌%◌, ◌^◌, ◌≤◌, ◌<◌}
 use native.Mathlib.Nat.{pow-suc, pow-le-pow_right}
 use native.Mathlib.Numerals.{add-one, one-add}
@@ -13,6 +13,7 @@ use lib.IntN.{ℤ, pos, negsuc}
 use lib.ListN.{length, get_or, take, drop, set, length-append, length-set, get_or-append}
 use lib.Seq.{take_at, drop_at, take-length, drop-length}
 use Rattle.rules.specs.Lists.{each}
+use Rattle.io.specs.Counts.{IsPrefixLen}
 use Rattle.io.specs.Digits.{hex_digit_ascii, last_digits, IsDigitCount}
 use Rattle.decimal.specs.Text.{digit, longer, value, told, leads, unsigned, minus, signed, Wrote, WroteWord}
 use Rattle.decimal.specs.declared.Number.TheVariants.{Is}
@@ -111,6 +112,20 @@ wrote_as {n} {r} {before} F h e =
       };
       says = λ most k. rw (take_at (last_digits 10 r n) (drop r before) r l) (reads_back r n most F k);
     })
+
+module _ (text before : List ℕ) (n k : ℕ) (C : IsPrefixLen k text) (F : IsDigitCount 10 1 n k) (D : take k text ≡ last_digits 10 k n) (h : n < 2 ^ 64) where
+  pub fits : 20 ≤ length before → length (take k text) ≤ length before
+  fits room = let u = at_most_20 k n F h in let w = C.1 in omega arith
+
+  pub wrote : {after : List ℕ} {r : ℕ} → r ≡ length (take k text) → after ≡ take (length (take k text)) (take k text) ++ drop (length (take k text)) before
+      → Wrote n before after r
+  wrote e w =
+      let i : length (take k text) ≡ k = sym C.1 in
+      rw (e, i)
+      (wrote_as F h
+      (w
+      ∙ ap (λ (s : List ℕ). s ++ drop (length (take k text)) before) (take-length (take k text) ∙ D)
+      ∙ ap (λ (m : ℕ). last_digits 10 k n ++ drop m before) i))
 
 -- ---- a word written
 
