@@ -4,5 +4,4 @@ pub mod Refusals
 pub mod Outcomes
 pub mod Points
 pub mod Pointing
-pub mod Written
 pub mod Entry

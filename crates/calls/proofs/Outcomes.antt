@@ -1,15 +1,13 @@
 -- Each call's outcome, from its tests and what it wrote. Assumes nothing.
 use mathlib.Core.Path.{◌≡◌, refl, sym, ap, ◌∙◌}
-use mathlib.Core.Option.{Option, some}
+use Rattle.std.specs.Prelude.{Option, Some, Ok, Err}
 use mathlib.Core.List.{List, [], ◌++◌}
-use Prim.Native.Nat.{ℕ, zero, suc, ◌<◌, min}
+use Prim.Native.Nat.{ℕ, zero, suc, ◌<◌, ◌≤◌, min}
 use native.Mathlib.Omega.{arith}
 use lib.IntN.{ℤ}
-use lib.ListN.{length, take, drop, replicate}
-use Rattle.rules.specs.declared.GiveUpAnswer.TheVariants as GiveUpSays
+use lib.ListN.{length, take, drop, replicate, length-replicate}
+use lib.Seq.{length-take-le}
 use Rattle.rules.specs.declared.NextAnswer.{NextAnswer}
-use Rattle.rules.specs.declared.NextAnswer.TheVariants as NextSays
-use Rattle.rules.specs.declared.SetUpAnswer.TheVariants as SetUpSays
 use Rattle.rules.specs.declared.State.{State}
 use Rattle.rules.specs.Lists.{over}
 use Rattle.rules.specs.Problem.{Problem, library_limits, cut, meant, sizes, problem_refusal}
@@ -24,6 +22,14 @@ use Rattle.calls.proofs.Rooms.{set_up_rooms, next_rooms, give_up_rooms, same_roo
 -- a part written over the front
 pub over_part : {A : Type 0} (new old part : List A) (n : ℕ) → part ≡ new → length part ≡ n → part ++ drop n old ≡ over new old
 over_part new old part n e h = rw (sym h) (rw e refl)
+
+-- a front filled with x
+pub over_filled : {A : Type 0} (x : A) (old part : List A) {n : ℕ} → part ≡ replicate (length (take n old)) x
+    → n ≤ length old
+    → part ++ drop n old ≡ over (replicate n x) old
+over_filled x old part {n} e h =
+    let f : part ≡ replicate n x = e ∙ ap (λ (k : ℕ). replicate k x) (length-take-le n old h) in
+    over_part (replicate n x) old part n f (ap length f ∙ length-replicate n x)
 
 -- ---- the refusals, by the rooms of each call
 
@@ -49,17 +55,18 @@ module _ (ws : List ℤ) where
 
 module _ (ws : List ℤ) (l : SetUpLent) where
   pub set_up_refused : (k : ℕ) → problem_refusal library_limits 1 (set_up_room l) ws ≡ k → 0 < k
-      → record { answer = SetUpSays.Refused blank k; lent = l } ≡ set_up_call library_limits ws l
+      → record { answer = Err (record { state = blank; number = k }); lent = l } ≡ set_up_call library_limits ws l
   unfolding set_up_call
   set_up_refused zero e h = absurd (omega arith)
   set_up_refused (suc k) e h = sym (ap (λ (i : ℕ). set_up_as i (meant (cut ws)) l) e)
 
   pub set_up_done : (table path : List ℤ) (profile : List ℕ) → problem_refusal library_limits 1 (set_up_room l) ws ≡ 0
       → table ≡ over (fresh (meant (cut ws))) l.table → path ≡ over (path_words (meant (cut ws)).np []) l.path → profile ≡ over (replicate (meant (cut ws)).np 0) l.profile
-      → record { answer = SetUpSays.SetUp blank; lent = record { table = table; path = path; profile = profile } } ≡ set_up_call library_limits ws l
+      → record { answer = Ok blank; lent = record { table = table; path = path; profile = profile } }
+      ≡ set_up_call library_limits ws l
   unfolding set_up_call
   set_up_done table path profile e a b c =
-      (λ i. record { answer = SetUpSays.SetUp blank; lent = record { table = a i; path = b i; profile = c i } })
+      (λ i. record { answer = Ok blank; lent = record { table = a i; path = b i; profile = c i } })
       ∙ sym (ap (λ (i : ℕ). set_up_as i (meant (cut ws)) l) e)
 
 -- ---- Next
@@ -69,14 +76,18 @@ module _ (ws : List ℤ) (l : NextLent) (st : State) (a : ℕ) where
   next_chain = refusal ws l.table l.spare l.path l.profile (min (length l.profile) (length l.found)) st
 
   pub next_refused : (k : ℕ) (spare : List ℤ) → next_chain ≡ k → 0 < k → spare ≡ spare_by next_chain (meant (cut ws)) l.spare
-      → record { answer = NextSays.Refused st k; lent = record { table = l.table; spare = spare; path = l.path; profile = l.profile; found = l.found } } ≡ next_call library_limits ws l st a
+      → record {
+        answer = Err (record { state = st; number = k });
+        lent = record { table = l.table; spare = spare; path = l.path; profile = l.profile; found = l.found };
+      }
+      ≡ next_call library_limits ws l st a
   unfolding next_call
   next_refused zero spare e h u = absurd (omega arith)
   next_refused (suc k) spare e h u =
       let w : spare ≡ spare_by (suc k) (meant (cut ws)) l.spare = u ∙ ap (λ (i : ℕ). spare_by i (meant (cut ws)) l.spare) e in
       rw w (sym (ap (λ (i : ℕ). next_as i (meant (cut ws)) l st (lent_point (cut ws) st l.table l.path) a) (sym (next_refusal ws l st) ∙ e)))
 
-  pub next_ran : (s : List Level) (r : NextAnswer) (table' spare' path' : List ℤ) (profile' : List ℕ) (found' : List ℤ) → next_chain ≡ 0 → lent_point (cut ws) st l.table l.path ≡ some s
+  pub next_ran : (s : List Level) (r : NextAnswer) (table' spare' path' : List ℤ) (profile' : List ℕ) (found' : List ℤ) → next_chain ≡ 0 → lent_point (cut ws) st l.table l.path ≡ Some s
       → (w : Walk) → w ≡ resume (meant (cut ws)) (pick (meant (cut ws))) a st.phase s
       → r ≡ next_answer w.end (moved (started st) w) (length w.visited)
       → table' ≡ over (table (meant (cut ws)) (made w.at)) l.table
@@ -84,14 +95,21 @@ module _ (ws : List ℤ) (l : NextLent) (st : State) (a : ℕ) where
       → path' ≡ over (path_words (meant (cut ws)).np w.at) l.path
       → profile' ≡ over (profile_from 0 w.visited (take (meant (cut ws)).np l.profile)) l.profile
       → found' ≡ found_words w.end w.at l.found
-      → record { answer = r; lent = record { table = table'; spare = spare'; path = path'; profile = profile'; found = found' } } ≡ next_call library_limits ws l st a
+      → record {
+        answer = Ok r;
+        lent = record { table = table'; spare = spare'; path = path'; profile = profile'; found = found' };
+      }
+      ≡ next_call library_limits ws l st a
   unfolding next_call
   next_ran s r table' spare' path' profile' found' e at w is c₁ c₂ c₃ c₄ c₅ c₆ =
       let P : Problem = meant (cut ws) in
       let u : spare' ≡ over (fresh P) l.spare = c₃ ∙ ap (λ (i : ℕ). spare_by i P l.spare) e in
-      (λ i. record { answer = c₁ i; lent = record { table = c₂ i; spare = u i; path = c₄ i; profile = c₅ i; found = c₆ i } })
+      (λ i. record {
+        answer = Ok (c₁ i);
+        lent = record { table = c₂ i; spare = u i; path = c₄ i; profile = c₅ i; found = c₆ i };
+      })
       ∙ ap (λ (v : Walk). record {
-        answer = next_answer v.end (moved (started st) v) (length v.visited);
+        answer = Ok (next_answer v.end (moved (started st) v) (length v.visited));
         lent = record {
           table = over (table P (made v.at)) l.table;
           spare = over (fresh P) l.spare;
@@ -109,7 +127,11 @@ module _ (ws : List ℤ) (l : GiveUpLent) (st : State) where
   give_up_chain = refusal ws l.table l.spare l.path [] (length l.path) st
 
   pub give_up_refused : (k : ℕ) (spare : List ℤ) → give_up_chain ≡ k → 0 < k → spare ≡ spare_by give_up_chain (meant (cut ws)) l.spare
-      → record { answer = GiveUpSays.Refused st k; lent = record { table = l.table; spare = spare; path = l.path } } ≡ give_up_call library_limits ws l st
+      → record {
+        answer = Err (record { state = st; number = k });
+        lent = record { table = l.table; spare = spare; path = l.path };
+      }
+      ≡ give_up_call library_limits ws l st
   unfolding give_up_call
   give_up_refused zero spare e h u = absurd (omega arith)
   give_up_refused (suc k) spare e h u =
@@ -118,10 +140,11 @@ module _ (ws : List ℤ) (l : GiveUpLent) (st : State) where
 
   pub give_up_done : (table spare path : List ℤ) → give_up_chain ≡ 0
       → table ≡ over (fresh (meant (cut ws))) l.table → spare ≡ spare_by give_up_chain (meant (cut ws)) l.spare → path ≡ over (path_words (meant (cut ws)).np []) l.path
-      → record { answer = GiveUpSays.GivenUp (given_up st); lent = record { table = table; spare = spare; path = path } } ≡ give_up_call library_limits ws l st
+      → record { answer = Ok (given_up st); lent = record { table = table; spare = spare; path = path } }
+      ≡ give_up_call library_limits ws l st
   unfolding give_up_call
   give_up_done table spare path e a b c =
       let P : Problem = meant (cut ws) in
       let u : spare ≡ over (fresh P) l.spare = b ∙ ap (λ (i : ℕ). spare_by i P l.spare) e in
-      (λ i. record { answer = GiveUpSays.GivenUp (given_up st); lent = record { table = a i; spare = u i; path = c i } })
+      (λ i. record { answer = Ok (given_up st); lent = record { table = a i; spare = u i; path = c i } })
       ∙ sym (ap (λ (i : ℕ). give_up_as i P l st) (sym (give_up_refusal ws l st) ∙ e))

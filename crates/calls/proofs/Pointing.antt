@@ -1,4 +1,5 @@
 -- Refusals 11 and 10 of a call whose words are accepted, and the whole chain of refusals. Assumes nothing.
+use Rattle.std.specs.Prelude.{Result, Ok, Err}
 use mathlib.Core.Path.{◌≡◌, refl, sym, ap, ◌∙◌}
 use mathlib.Core.Bool.{Bool, true, false}
 use mathlib.Core.List.{List, [], ◌∷◌, ◌++◌}
@@ -9,8 +10,6 @@ use lib.ListN.{length, take, drop}
 use Rattle.rules.specs.declared.Limits.{Limits}
 use Rattle.rules.specs.declared.Sizes.{Sizes}
 use Rattle.rules.specs.declared.State.{State}
-use Rattle.rules.specs.declared.Verdict.{Verdict}
-use Rattle.rules.specs.declared.Verdict.TheVariants.{Refused, Sized}
 use Rattle.rules.specs.Lists.{got, over}
 use Rattle.rules.specs.Problem.{library_limits, cut, meant, sizes, table_length, fault, judged, problem_refusal}
 use Rattle.rules.specs.Order.{pick}
@@ -51,14 +50,15 @@ fresh_over ws s M f old part words e u =
     over_part (fresh (meant (cut ws))) old part words u (ap length u ∙ fresh_size (cut ws) f ∙ ap (λ (x : Sizes). table_length x) (sym M.are) ∙ sym e)
 
 module _ (ws table spare path : List ℤ) (profile : List ℕ) (s : Sizes) (st : State) where
-  pub at_11 : counts_fit st (take (cut ws).np profile) ≡ false → Pointed ws table spare path profile s st (Refused 11) spare
+  pub at_11 : counts_fit st (take (cut ws).np profile) ≡ false → Pointed ws table spare path profile s st (Err 11) spare
   at_11 f = record { answer = rw f refl; spare_is = rw f refl }
 
   module _ (f : counts_fit st (take (cut ws).np profile) ≡ true) {spare' : List ℤ} (e : spare' ≡ over (fresh (meant (cut ws))) spare) where
-    pub at_10 : got (lent_point (cut ws) st table path) ≡ false → Pointed ws table spare path profile s st (Refused 10) spare'
+    pub at_10 : got (lent_point (cut ws) st table path) ≡ false
+        → Pointed ws table spare path profile s st (Err 10) spare'
     at_10 g = record { answer = rw (f, g) refl; spare_is = rw (f, g) e }
 
-    pub at_0 : got (lent_point (cut ws) st table path) ≡ true → Pointed ws table spare path profile s st (Sized s) spare'
+    pub at_0 : got (lent_point (cut ws) st table path) ≡ true → Pointed ws table spare path profile s st (Ok s) spare'
     at_0 g = record { answer = rw (f, g) refl; spare_is = rw (f, g) e }
 
 -- ---- the whole chain
@@ -66,41 +66,9 @@ module _ (ws table spare path : List ℤ) (profile : List ℕ) (s : Sizes) (st :
 abbrev pub room_of : List ℤ → List ℤ → List ℤ → ℕ → Sizes → Bool
 room_of table spare path more = room (min (length table) (length spare)) (min (length path) more)
 
-module _ (ws table spare path : List ℤ) (profile : List ℕ) (more : ℕ) (st : State) where
-  abbrev problem_part : ℕ
-  problem_part = problem_refusal library_limits 1 (room_of table spare path more) ws
-
-  -- what the test of the problem answered
-  pub accept_is : {L : Limits} {a b : ℕ} {v : Verdict} → L ≡ library_limits → a ≡ min (length table) (length spare) → b ≡ min (length path) more
-      → (marks : ℕ) → v ≡ judged (problem_refusal (served L marks) 1 (room a b) ws) (sizes (cut ws)) → library_limits.items ≤ marks → v ≡ judged problem_part (sizes (cut ws))
-  accept_is {L} p q r marks e h = e ∙ rw (served_all L marks p h, q, r)
-
-  pub refused_first : (v : Verdict) {k : ℕ} → v ≡ judged problem_part (sizes (cut ws)) → v ≡ Refused k → Tested ws table spare path profile more st v spare
-  unfolding refusal
-  refused_first v {k} e u =
-      let (a, b) = judged_refused problem_part (sizes (cut ws)) (sym u ∙ e) in
-      let (c, d) = at_problem library_limits (room_of table spare path more) ws (counts_fit st (take (cut ws).np profile)) (lent_point (cut ws) st table path) k a b in
-      record {
-        answer = e ∙ ap (λ (i : ℕ). judged i (sizes (cut ws))) (a ∙ sym c);
-        spare_is = rw c (spare_kept k (meant (cut ws)) spare b (λ z. omega arith));
-      }
-
-  module _ {v : Verdict} {s : Sizes} (e : v ≡ judged problem_part (sizes (cut ws))) (u : v ≡ Sized s) where
-    none_yet : (problem_part ≡ 0) × (s ≡ sizes (cut ws))
-    none_yet = judged_sized problem_part (sym u ∙ e)
-
-    pub words_accepted : Accepted library_limits 1 (room_of table spare path more) ws s
-    words_accepted = accepted library_limits 1 (room_of table spare path more) ws none_yet.0 none_yet.1
-
-    pub then_pointed : {r : Verdict} {spare' : List ℤ} → Pointed ws table spare path profile s st r spare' → Tested ws table spare path profile more st r spare'
-    unfolding refusal search_refusal
-    then_pointed Q = record {
-      answer = rw none_yet.0 (Q.answer ∙ ap (λ (x : Sizes). judged (last_refusal ws table path profile st) x) none_yet.1);
-      spare_is = rw none_yet.0 Q.spare_is;
-    }
-
 -- room for table, spare and path
-pub laid : (ws table spare path : List ℤ) (more : ℕ) (s : Sizes) → Accepted library_limits 1 (room_of table spare path more) ws s
+pub laid : (ws table spare path : List ℤ) (more : ℕ) (s : Sizes)
+    → Accepted library_limits 1 (room_of table spare path more) ws s
     → Laid ws s table path × (table_length s ≤ length spare) × (s.np ≤ more)
 laid ws table spare path more s A =
     let (a, b) = room_parts (min (length table) (length spare)) (min (length path) more) s A.has_room in (
@@ -114,3 +82,44 @@ laid ws table spare path more s A =
       omega arith,
       omega arith,
     )
+
+module _ (ws table spare path : List ℤ) (more : ℕ) where
+  abbrev problem_part : ℕ
+  problem_part = problem_refusal library_limits 1 (room_of table spare path more) ws
+
+  -- what the test of the problem answered
+  pub accept_is : {L : Limits} {a b : ℕ} {v : Result Sizes ℕ} → L ≡ library_limits
+      → a ≡ min (length table) (length spare) → b ≡ min (length path) more
+      → (marks : ℕ) → v ≡ judged (problem_refusal (served L marks) 1 (room a b) ws) (sizes (cut ws)) → library_limits.items ≤ marks → v ≡ judged problem_part (sizes (cut ws))
+  accept_is {L} p q r marks e h = e ∙ rw (served_all L marks p h, q, r)
+
+  pub refused_first : {k : ℕ} → Err k ≡ judged problem_part (sizes (cut ws)) → {profile : List ℕ} {st : State}
+      → Tested ws table spare path profile more st (Err k) spare
+  unfolding refusal
+  refused_first {k} e {profile} {st} =
+      let (a, b) = judged_refused problem_part (sizes (cut ws)) e in
+      let (c, d) = at_problem library_limits (room_of table spare path more) ws (counts_fit st (take (cut ws).np profile)) (lent_point (cut ws) st table path) k a b in
+      record {
+        answer = e ∙ ap (λ (i : ℕ). judged i (sizes (cut ws))) (a ∙ sym c);
+        spare_is = rw c (spare_kept k (meant (cut ws)) spare b (λ z. omega arith));
+      }
+
+  module _ {s : Sizes} (e : Ok s ≡ judged problem_part (sizes (cut ws))) where
+    none_yet : (problem_part ≡ 0) × (s ≡ sizes (cut ws))
+    none_yet = judged_sized problem_part e
+
+    -- so there is room for table, spare and path
+    pub words_laid : Laid ws s table path × (table_length s ≤ length spare)
+    words_laid =
+        let L = laid ws table spare path more s (accepted library_limits 1
+        (room_of table spare path more) ws none_yet.0 none_yet.1) in
+        (L.0, L.1)
+
+    pub then_pointed : {profile : List ℕ} {st : State} {r : Result Sizes ℕ} {spare' : List ℤ}
+        → Pointed ws table spare path profile s st r spare'
+        → Tested ws table spare path profile more st r spare'
+    unfolding refusal search_refusal
+    then_pointed {profile} {st} Q = record {
+      answer = rw none_yet.0 (Q.answer ∙ ap (λ (x : Sizes). judged (last_refusal ws table path profile st) x) none_yet.1);
+      spare_is = rw none_yet.0 Q.spare_is;
+    }

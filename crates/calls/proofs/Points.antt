@@ -1,6 +1,6 @@
 -- Words that are accepted, and the point that was lent. Assumes nothing.
 use mathlib.Core.Path.{◌≡◌, sym, ap, ◌∙◌}
-use mathlib.Core.Option.{some}
+use Rattle.std.specs.Prelude.{Some}
 use mathlib.Core.List.{List}
 use Prim.Native.Nat.{ℕ, ◌+◌, ◌≤◌, ◌<◌}
 use lib.Dec.{T}
@@ -23,7 +23,7 @@ use Rattle.calls.specs.Tested.{Laid, Parts, Fronts}
 
 -- the point that was lent
 pub begun : (ws : List ℤ) (s : Sizes) (M : Measured ws s) → fault (cut ws) ≡ 0 → table_length s < 2147483648 → (st : State) (lent path : List ℤ) → s.np ≤ length path
-    → {v : List Level} → lent_point (cut ws) st lent path ≡ some v → Begun (meant (cut ws)) (s.np + s.ns) v (take (table_length s) lent) (take s.np path) st
+    → {v : List Level} → lent_point (cut ws) st lent path ≡ Some v → Begun (meant (cut ws)) (s.np + s.ns) v (take (table_length s) lent) (take s.np path) st
 unfolding lent_point sizes cut meant
 begun ws s M f small st lent path h e =
     point_begun st (take (table_length s) lent) (take s.np path) (good_meant (cut ws) f) (few_nodes ws s M f small) (n_meant ws s M) (length-take-le s.np path h ∙ sym (np_meant ws s M)) (rw M.are e)
@@ -38,7 +38,7 @@ testing ws s t spare path spare' G l e = record {
 
 -- lists whose fronts are the point's
 pub fronts : (ws : List ℤ) (s : Sizes) (lent path : List ℤ) (profile : List ℕ) (found : List ℤ) (st : State) {v : List Level} → Laid ws s lent path → s.np ≤ length profile → s.np ≤ length found
-    → T (counts_fit st (take (cut ws).np profile)) → lent_point (cut ws) st lent path ≡ some v → Fronts s lent path profile found st
+    → T (counts_fit st (take (cut ws).np profile)) → lent_point (cut ws) st lent path ≡ Some v → Fronts s lent path profile found st
 unfolding sizes cut
 fronts ws s lent path profile found st {v} L hp hf t e =
     let c = counts_begun st (take (cut ws).np profile) t in

@@ -2,7 +2,7 @@
 use mathlib.Core.Path.{◌≡◌, refl, sym, ap}
 use mathlib.Core.Logic.{◌≢◌}
 use mathlib.Core.Bool.{Bool, true, false, not, ◌&&◌, ◌||◌, cond}
-use mathlib.Core.Option.{Option, none, some}
+use Rattle.std.specs.Prelude.{Option, None, Some}
 use mathlib.Core.List.{List, [], ◌∷◌}
 use Prim.Native.Nat.{ℕ, zero, suc, ◌+◌, ◌≤◌, ◌<◌}
 use native.Mathlib.Omega.{arith}
@@ -83,13 +83,13 @@ module _ (L : Limits) (room : Sizes → Bool) (ws : List ℤ) (fit : Bool) (at :
       unfolding search_refusal
       at_point g = rw (e, f, g)
 
-got_some : (o : Option (List Level)) → T (got o) → (s : List Level) × (o ≡ some s)
-got_some none t = absurd t
-got_some (some s) t = (s, refl)
+got_some : (o : Option (List Level)) → T (got o) → (s : List Level) × (o ≡ Some s)
+got_some None t = absurd t
+got_some (Some s) t = (s, refl)
 
 -- what is known where there is no refusal
 pub no_refusal : (L : Limits) (room : Sizes → Bool) (ws : List ℤ) (fit : Bool) (at : Option (List Level)) → search_refusal L room ws fit at ≡ 0
-    → (problem_refusal L 1 room ws ≡ 0) × T fit × (s : List Level) × (at ≡ some s)
+    → (problem_refusal L 1 room ws ≡ 0) × T fit × (s : List Level) × (at ≡ Some s)
 unfolding search_refusal
 no_refusal L room ws fit at e =
     let (a, e₁) = first_none (problem_refusal L 1 room ws) _ e in

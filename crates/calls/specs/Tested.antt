@@ -1,11 +1,8 @@
 -- What the tests of a call on a search answer, and what a run asks and leaves.
-use Rattle.std.specs.Prelude.{◌≡◌, cond, List, ℕ, zero, suc, ◌+◌, ◌<◌, ◌≤◌, min, leb, ℤ, length, get_or, take}
+use Rattle.std.specs.Prelude.{◌≡◌, List, ℕ, zero, suc, ◌+◌, ◌<◌, ◌≤◌, min, ℤ, length, get_or, take, Result}
 use Rattle.rules.specs.declared.NextAnswer.{NextAnswer}
-use Rattle.rules.specs.declared.Phase.{Phase}
-use Rattle.rules.specs.declared.Phase.TheVariants.{Ready, Solution, Done}
 use Rattle.rules.specs.declared.Sizes.{Sizes}
 use Rattle.rules.specs.declared.State.{State}
-use Rattle.rules.specs.declared.Verdict.{Verdict}
 use Rattle.rules.specs.Lists.{over, got}
 use Rattle.rules.specs.Problem.{Problem, library_limits, cut, meant, sizes, table_length, fault, need, judged}
 use Rattle.rules.specs.Links.{fresh, table as table_at}
@@ -44,7 +41,8 @@ abbrev pub spare_by : ℕ → Problem → List ℤ → List ℤ
 spare_by zero P spare = over (fresh P) spare
 spare_by (suc k) P spare = spare_after (suc k) P spare
 
-pub record Pointed (ws table spare path : List ℤ) (profile : List ℕ) (s : Sizes) (st : State) (r : Verdict) (spare' : List ℤ) : Type 0 where
+pub record Pointed (ws table spare path : List ℤ) (profile : List ℕ) (s : Sizes) (st : State) (r : Result Sizes ℕ)
+    (spare' : List ℤ) : Type 0 where
   pub answer : r ≡ judged (last_refusal ws table path profile st) s
   pub spare_is : spare' ≡ spare_by (last_refusal ws table path profile st) (meant (cut ws)) spare
 
@@ -54,18 +52,10 @@ refusal ws table spare path profile more st =
     search_refusal library_limits (room (min (length table) (length spare)) (min (length path) more)) ws
     (counts_fit st (take (cut ws).np profile)) (lent_point (cut ws) st table path)
 
-pub record Tested (ws table spare path : List ℤ) (profile : List ℕ) (more : ℕ) (st : State) (r : Verdict) (spare' : List ℤ) : Type 0 where
+pub record Tested (ws table spare path : List ℤ) (profile : List ℕ) (more : ℕ) (st : State) (r : Result Sizes ℕ)
+    (spare' : List ℤ) : Type 0 where
   pub answer : r ≡ judged (refusal ws table spare path profile more st) (sizes (cut ws))
   pub spare_is : spare' ≡ spare_by (refusal ws table spare path profile more st) (meant (cut ws)) spare
-
--- how many words of a list of n Report hands back
-abbrev pub front_at : Phase → ℕ → ℕ → ℕ
-front_at Ready d n = 0
-front_at Solution d n = cond (leb d n) d 0
-front_at Done d n = 0
-
-abbrev pub front_length : State → ℕ → ℕ
-front_length st n = front_at st.phase st.depth n
 
 -- ---- what a call that is accepted writes
 

@@ -3,7 +3,7 @@
 
 mod test;
 
-ghost use Rattle.std.specs.Prelude.{◌≡◌, List, [], ◌+◌, ◌≤◌, length, replicate, take, pos};
+ghost use Rattle.std.specs.Prelude.{◌≡◌, List, [], ◌+◌, ◌≤◌, length, take};
 ghost use Rattle.rules.specs.Lists.{over};
 ghost use Rattle.rules.specs.Problem.{Problem, library_limits, cut, meant, table_length};
 ghost use Rattle.rules.specs.Order.{pick};
@@ -11,22 +11,13 @@ ghost use Rattle.rules.specs.Walk.{Level, resume};
 ghost use Rattle.rules.specs.Links.{fresh};
 ghost use Rattle.rules.specs.Calls.{cap, blank, started, path_words, set_up_call, next_call, give_up_call, report_call};
 ghost use Rattle.search.specs.Points.{Profile, Begun, SomeBegun};
-ghost use Rattle.calls.specs.Tested.{Laid, Wrote, Fronts, WroteFronts, front_length};
+ghost use Rattle.calls.specs.Tested.{Laid, Wrote, Fronts, WroteFronts};
 
 use crate::test::test;
 use init::{init_links, table_words};
-use problem::room::{accept, shorter};
-use rules::{
-    GiveUpAnswer, LIBRARY_ITEMS, NextAnswer, Phase, SetUpAnswer, Sizes, State, Verdict, library,
-};
+use problem::room::accept;
+use rules::{LIBRARY_ITEMS, NextAnswer, Phase, Refused, Sizes, State, library};
 use search::{go, write_found};
-use words::put_link;
-
-fn wide(x: u32) -> usize
-    ensures { result ≡ x }
-{
-    x as usize
-}
 
 // Ready at depth 0.
 fn ready(updates: u64) -> State
@@ -35,30 +26,7 @@ fn ready(updates: u64) -> State
     State {
         phase: Phase::Ready,
         depth: 0,
-        updates: updates,
-    }
-}
-
-// The first np words of the path become 0.
-fn clear_path(path: &mut [i32], np: usize)
-    requires { np ≤ length path.old }
-    ensures { path.new ≡ over (replicate np (pos 0)) path.old }
-{
-    let mut k = 0;
-    while k < np {
-        put_link(path, k, 0);
-        k += 1;
-    }
-}
-
-fn clear_profile(profile: &mut [u64], np: usize)
-    requires { np ≤ length profile.old }
-    ensures { profile.new ≡ over (replicate np 0) profile.old }
-{
-    let mut k = 0;
-    while k < np {
-        profile[k] = 0;
-        k += 1;
+        updates,
     }
 }
 
@@ -70,7 +38,7 @@ fn lay_out(problem: &[i32], table: &mut [i32], path: &mut [i32], s: Sizes)
 {
     let words = table_words(s);
     init_links(&mut table[..words], problem, s);
-    clear_path(path, s.np);
+    path[..s.np].fill(0);
 }
 
 // Set-up: table, path and profile are made ready for the problem's search.
@@ -79,19 +47,17 @@ pub fn set_up(
     table: &mut [i32],
     path: &mut [i32],
     profile: &mut [u64],
-) -> SetUpAnswer
+) -> Result<State, Refused>
     ensures { record { answer = result; lent = record { table = table.new; path = path.new; profile = profile.new } } ≡ set_up_call library_limits problem.now (record { table = table.old; path = path.old; profile = profile.old }) }
 {
     let mut marks = [0usize; LIBRARY_ITEMS];
-    let lists = shorter(path.len(), profile.len());
-    match accept(problem, library(), 1, table.len(), lists, &mut marks) {
-        Verdict::Refused(k) => SetUpAnswer::Refused(ready(0), k),
-        Verdict::Sized(s) => {
-            lay_out(problem, table, path, s);
-            clear_profile(profile, s.np);
-            SetUpAnswer::SetUp(ready(0))
-        }
-    }
+    let lists = path.len().min(profile.len());
+    let state = ready(0);
+    let refused = |number| Refused { state, number };
+    let s = accept(problem, library(), 1, table.len(), lists, &mut marks).map_err(refused)?;
+    lay_out(problem, table, path, s);
+    profile[..s.np].fill(0);
+    Ok(state)
 }
 
 // The walk from a point, on parts of the stated lengths; on a solution its option numbers go over the front of `found`.
@@ -112,7 +78,7 @@ fn run(
 {
     let answer = go(t, path, profile, n, state, allowance);
     if let NextAnswer::Solution(at, visits) = answer {
-        write_found(t, n, path, found, wide(at.depth));
+        write_found(t, n, path, found, at.depth as usize);
     }
     answer
 }
@@ -154,17 +120,13 @@ pub fn next(
     found: &mut [i32],
     state: State,
     allowance: u64,
-) -> NextAnswer
+) -> Result<NextAnswer, Refused>
     ensures { record { answer = result; lent = record { table = table.new; spare = spare.new; path = path.new; profile = profile.new; found = found.new } } ≡ next_call library_limits problem.now (record { table = table.old; spare = spare.old; path = path.old; profile = profile.old; found = found.old }) state allowance }
 {
-    let mut marks = [0usize; LIBRARY_ITEMS];
-    let more = shorter(profile.len(), found.len());
-    match test(
-        problem, table, spare, path, profile, more, state, &mut marks,
-    ) {
-        Verdict::Refused(k) => NextAnswer::Refused(state, k),
-        Verdict::Sized(s) => run_fronts(table, path, profile, found, s, state, allowance),
-    }
+    let more = profile.len().min(found.len());
+    let refused = |number| Refused { state, number };
+    let s = test(problem, table, spare, path, profile, more, state).map_err(refused)?;
+    Ok(run_fronts(table, path, profile, found, s, state, allowance))
 }
 
 // Give-up: the table is set up afresh, and the path cleared.
@@ -174,48 +136,21 @@ pub fn give_up(
     spare: &mut [i32],
     path: &mut [i32],
     state: State,
-) -> GiveUpAnswer
+) -> Result<State, Refused>
     ensures { record { answer = result; lent = record { table = table.new; spare = spare.new; path = path.new } } ≡ give_up_call library_limits problem.now (record { table = table.old; spare = spare.old; path = path.old }) state }
 {
-    let mut marks = [0usize; LIBRARY_ITEMS];
-    let none = [0u64; 1];
-    match test(
-        problem,
-        table,
-        spare,
-        path,
-        &none[..0],
-        path.len(),
-        state,
-        &mut marks,
-    ) {
-        Verdict::Refused(k) => GiveUpAnswer::Refused(state, k),
-        Verdict::Sized(s) => {
-            lay_out(problem, table, path, s);
-            GiveUpAnswer::GivenUp(ready(state.updates))
-        }
-    }
-}
-
-// How many words of a list of length `len` Report hands back.
-fn front_length(state: State, len: usize) -> usize
-    ensures { (result ≡ front_length state len) × (result ≤ len) }
-{
-    let phase = state.phase;
-    match phase {
-        Phase::Ready => 0,
-        Phase::Done => 0,
-        Phase::Solution => {
-            let depth = wide(state.depth);
-            if depth <= len { depth } else { 0 }
-        }
-    }
+    let refused = |number| Refused { state, number };
+    let s = test(problem, table, spare, path, &[], path.len(), state).map_err(refused)?;
+    lay_out(problem, table, path, s);
+    Ok(ready(state.updates))
 }
 
 // Report: the front part of the lent list of found options, `depth` long at a solution, else empty.
 pub fn report<'a>(found: &'a [i32], state: State) -> &'a [i32]
     ensures { result.now ≡ report_call found.now state }
 {
-    let k = front_length(state, found.len());
-    &found[..k]
+    match state.phase {
+        Phase::Ready | Phase::Done => &[],
+        Phase::Solution => found.get(..state.depth as usize).unwrap_or(&[]),
+    }
 }

@@ -1,39 +1,22 @@
 // The refusals of a call on a search: those of the problem, then 11, then 10. Only the spare is written.
-ghost use Rattle.std.specs.Prelude.{◌≡◌, ◌≤◌, leb, length};
+ghost use Rattle.std.specs.Prelude.{◌≡◌, ◌≤◌, length};
 ghost use Rattle.rules.specs.Lists.{got};
-ghost use Rattle.rules.specs.Problem.{library_limits, cut, meant, table_length};
+ghost use Rattle.rules.specs.Problem.{cut, meant, table_length};
 ghost use Rattle.rules.specs.Order.{pick};
 ghost use Rattle.rules.specs.Links.{fresh};
-ghost use Rattle.rules.specs.Calls.{cap, counts_fit, point};
+ghost use Rattle.rules.specs.Calls.{counts_fit, point};
 ghost use Rattle.calls.specs.Tested.{Parts, Laid, Pointed, Tested};
 
 use init::{init_links, table_words};
-use problem::room::{accept, shorter};
-use rules::{CAP, Sizes, State, Verdict, library};
+use problem::room::accept;
+use rules::{CAP, LIBRARY_ITEMS, Sizes, State, library};
 use search::point::test_point;
-
-// Whether a count is within the cap.
-fn within(c: u64) -> bool
-    ensures { result ≡ leb c cap }
-{
-    c <= CAP
-}
 
 // Whether the state's count and these of the profile are within the cap.
 fn counts_fit(state: State, profile: &[u64]) -> bool
     ensures { result ≡ counts_fit state profile.now }
 {
-    if !within(state.updates) {
-        return false;
-    }
-    let mut k = 0;
-    while k < profile.len() {
-        if !within(profile[k]) {
-            return false;
-        }
-        k += 1;
-    }
-    true
+    state.updates <= CAP && profile.iter().all(|c| *c <= CAP)
 }
 
 // Whether table, path and state are a point of the problem's search. The spare is left fresh.
@@ -62,15 +45,14 @@ fn test_point_of(
     profile: &[u64],
     s: Sizes,
     state: State,
-) -> Verdict
+) -> Result<Sizes, u32>
     requires laid { Laid problem.now s table.now path.now }
     requires s_in_bounds { table_length s ≤ length spare.old }
     ensures { Pointed problem.now table.now spare.old path.now profile.now s state result spare.new }
 {
-    let np = s.np;
-    let front = shorter(np, profile.len());
+    let front = s.np.min(profile.len());
     if !counts_fit(state, &profile[..front]) {
-        return Verdict::Refused(11);
+        return Err(11);
     }
     let words = table_words(s);
     if !fresh_point(
@@ -78,16 +60,16 @@ fn test_point_of(
         s,
         &table[..words],
         &mut spare[..words],
-        &path[..np],
+        &path[..s.np],
         state,
     ) {
-        return Verdict::Refused(10);
+        return Err(10);
     }
-    Verdict::Sized(s)
+    Ok(s)
 }
 
 // Refusals 1 to 11, or the sizes. The shortest lent list beside table, spare and path has `more` words; a call that is lent no profile gives an
-// empty one. `marks` is lent to work in.
+// empty one.
 pub fn test(
     problem: &[i32],
     table: &[i32],
@@ -96,16 +78,12 @@ pub fn test(
     profile: &[u64],
     more: usize,
     state: State,
-    marks: &mut [usize],
-) -> Verdict
-    requires { library_limits.items ≤ length marks.old }
+) -> Result<Sizes, u32>
     ensures { Tested problem.now table.now spare.old path.now profile.now more state result spare.new }
 {
-    let tables = shorter(table.len(), spare.len());
-    let lists = shorter(path.len(), more);
-    let v = accept(problem, library(), 1, tables, lists, marks);
-    match v {
-        Verdict::Refused(k) => v,
-        Verdict::Sized(sizes) => test_point_of(problem, table, spare, path, profile, sizes, state),
-    }
+    let mut marks = [0usize; LIBRARY_ITEMS];
+    let tables = table.len().min(spare.len());
+    let lists = path.len().min(more);
+    let s = accept(problem, library(), 1, tables, lists, &mut marks)?;
+    test_point_of(problem, table, spare, path, profile, s, state)
 }

@@ -9,8 +9,9 @@ use native.Mathlib.Omega.{arith}
 use borrow.Author.Tests.{lt-ltb, le-ltb, ltb-true, ltb-false}
 use lib.Dec.{ltb, lit<}
 use lib.IntN.{ℤ, pos}
-use lib.ListN.{length, get_or, take, drop, set, length-append, length-set, length-map, length-drop, drop_of_length-le, get_or-map}
-use lib.Seq.{sets, length-sets, drop-cons, get_or-take, length-take-le}
+use lib.ListN.{length, get_or, take, drop, set, length-append, length-map, length-drop, drop_of_length-le, get_or-map}
+use borrow.Rule.Slice.PartMut.{put_mid}
+use lib.Seq.{sets, sets-eq, length-sets, drop-cons, drop-drop, get_or-take, length-take-le}
 use Rattle.rules.specs.Words.{word, nat}
 use Rattle.rules.specs.Cover.{decimal_within, decimal, line, refusal_line}
 use Rattle.io.specs.Counts.{IsPrefixLen}
@@ -43,27 +44,15 @@ put_long {a} {xs = xs} {at = at} p = ap length p.is ∙ length-sets a at xs
 
 -- ---- bytes copied
 
-pub record Copying (out₀ : List ℕ) (at : ℕ) (new out : List ℕ) (k : ℕ) : Type 0 where
-  pub high : k ≤ length new
-  pub same : sets out₀ at new ≡ sets out (at + k) (drop k new)
-  pub long : length out ≡ length out₀
-
-pub copy_start : (out : List ℕ) (at : ℕ) (new : List ℕ) → Copying out at new out 0
-copy_start out at new = record { high = omega arith; same = (let e : at ≡ at + 0 = omega arith in ap (λ (k : ℕ). sets out k new) e); long = refl }
-
-pub copy_turn : {out₀ new out : List ℕ} {at k : ℕ} → Copying out₀ at new out k → k < length new → Copying out₀ at new (set out (at + k) (get_or new k 0)) (k + 1)
-copy_turn {out₀} {new} {out} {at} {k} C h =
-    let e : suc (at + k) ≡ at + (k + 1) = omega arith in
-    record {
-      high = omega arith;
-      same =
-          C.same ∙ ap (sets out (at + k)) (drop-cons new k 0 h ∙ ap (λ (n : ℕ). get_or new k 0 ∷ drop n new) (sym (add-one k)))
-          ∙ ap (λ (n : ℕ). sets (set out (at + k) (get_or new k 0)) n (drop (k + 1) new)) e;
-      long = length-set out (at + k) (get_or new k 0) ∙ C.long;
-    }
-
-pub copy_end : {out₀ new out : List ℕ} {at k : ℕ} → Copying out₀ at new out k → length new ≤ k → Put out₀ at new out (at + length new)
-copy_end {out₀} {new} {out} {at} {k} C h = record { end = refl; is = sym (C.same ∙ ap (sets out (at + k)) (drop_of_length-le new h)) }
+-- the bytes of a part become those copied there
+pub copied : (out new ys : List ℕ) (at n : ℕ) → ys ≡ new → n ≡ length new → at + length new ≤ length out
+    → Put out at new (put_mid at n out ys) (at + length new)
+copied out new ys at n e l h = record {
+  end = refl;
+  is =
+      rw (e, l) (ap (λ (x : List ℕ). take at out ++ (new ++ x)) (drop-drop (length new) at out))
+      ∙ sym (append_assoc (take at out) new (drop (at + length new) out)) ∙ sym (sets-eq new out at h);
+}
 
 -- ---- digits
 
@@ -107,9 +96,6 @@ at_most_20 k n F h = by (ltb 20 k) refl
 module _ (text : List ℕ) (n k : ℕ) (C : IsPrefixLen k text) (F : IsDigitCount 10 1 n k) (D : take k text ≡ last_digits 10 k n) (h : n < 2 ^ 64) where
   pub digits_are : take k text ≡ decimal n
   digits_are = D ∙ digits_decimal 20 k n (at_most_20 k n F h) F
-
-  pub digits_short : length (take k text) ≤ 20
-  digits_short = let u = at_most_20 k n F h in let w = C.1 in omega arith
 
 within_short : (k n : ℕ) → length (decimal_within k n) ≤ k
 unfolding decimal_within

@@ -1,4 +1,5 @@
 -- From an accepted problem to its pages, and the lines that are printed. Assumes nothing.
+use Rattle.std.specs.Prelude.{Option, None, Some, Result, Err}
 use mathlib.Core.Logic.{◌⊎◌, inl, inr}
 use mathlib.Core.Bool.{Bool}
 use mathlib.Core.List.{List, [], ◌∷◌, ◌++◌, map, append-nil}
@@ -11,12 +12,15 @@ use lib.Seq.{drop-drop, length-take-le, sets-eq, take_all, take_at, drop_at}
 use Rattle.rules.specs.declared.Phase.TheVariants.{Ready}
 use Rattle.rules.specs.declared.Sizes.{Sizes}
 use Rattle.rules.specs.declared.State.{State}
+use Rattle.rules.specs.declared.Unread.{Unread}
+use Rattle.rules.specs.declared.Unread.TheVariants.{Faulty, Refused}
 use Rattle.rules.specs.Lists.{flat}
 use Rattle.rules.specs.Problem.{Problem, door_limits, as_entry, cut, meant, sizes}
 use Rattle.rules.specs.Order.{Rule, pick}
 use Rattle.rules.specs.Walk.{listed}
 use Rattle.rules.specs.Links.{fresh}
 use Rattle.rules.specs.Calls.{blank}
+use Rattle.rules.specs.Text.{read_said}
 use Rattle.rules.specs.Cover.{line, refusal_line, refused, accepted, opened, printed_of, printed}
 use Rattle.laws.specs.Faults.{good_meant}
 use Rattle.laws.specs.Lists.{flat_append}
@@ -29,9 +33,6 @@ use Rattle.knuth.proofs.Walks.{whole_found}
 use Rattle.search.specs.Meant.{top_on, top_profile}
 use Rattle.cover.specs.declared.page.Page.{Page}
 use Rattle.cover.specs.declared.page.Page.TheVariants.{All, More}
-use Rattle.cover.specs.declared.Turned.{Turned}
-use Rattle.cover.specs.declared.Turned.TheVariants.{To, Lost}
-use Rattle.cover.specs.declared.open.Opened.{Opened}
 use Rattle.cover.specs.Lines.{Put}
 use Rattle.cover.specs.Opening.{Opens}
 use Rattle.cover.specs.Pages.{Coming, Lined, FilledMore, FilledAs, Filled, MovedAs, TurnedAs}
@@ -108,13 +109,9 @@ nearer {sent} {used} {sent'} m h l = by m.on
     by (inr w) = omega arith
 
 -- where a page was turned, and where it could not be
-pub turned : (sent used sent' : ℕ) {u : Turned} {next : Page} → MovedAs sent used sent' u → u ≡ To next
+pub turned : (sent used sent' : ℕ) {u : Option Page} {next : Page} → MovedAs sent used sent' u → u ≡ Some next
     → Moved sent used sent'
-turned sent used sent' m q = subst (λ (x : Turned). MovedAs sent used sent' x) q m
-
-pub stopped : (sent used sent' : ℕ) {u : Turned} → MovedAs sent used sent' u → u ≡ Lost → 9223372036854775808 ≤ sent'
-stopped sent used sent' m q =
-    let l : sent' ≡ lost = subst (λ (x : Turned). MovedAs sent used sent' x) q m in omega arith
+turned sent used sent' m q = subst (λ (x : Option Page). MovedAs sent used sent' x) q m
 
 -- `sent` bytes are written, and the lines of these solutions are the others
 pub record Unsent (text : List ℕ) (sent : ℕ) (left : List (List ℕ)) : Type 0 where
@@ -203,8 +200,8 @@ module _ {text : List ℕ} {P : Problem} {n : ℕ} {t path : List ℤ} {profile 
     pub more_coming : Coming P n more.filling.left t path profile at
     more_coming = more.filling.coming
 
-    pub more_sent : {t' path' : List ℤ} {profile' out' : List ℕ} {sent' : ℕ} {u : Turned} {next : Page}
-        → Moved sent used sent' → TurnedAs P n more.filling.left t' path' profile' out' u → u ≡ To next
+    pub more_sent : {t' path' : List ℤ} {profile' out' : List ℕ} {sent' : ℕ} {u : Option Page} {next : Page}
+        → Moved sent used sent' → TurnedAs P n more.filling.left t' path' profile' out' u → u ≡ Some next
         → sent' < 9223372036854775808 → Paging text P n t' path' profile' out' sent' next
     more_sent {t'} {path'} {profile'} {out'} {sent'} {next = next} m f q h = by m.on
       where
@@ -214,17 +211,21 @@ module _ {text : List ℕ} {P : Problem} {n : ℕ} {t path : List ℤ} {profile 
             record {
               left = F.left;
               unsent = sent_on text F.done F.left out S.unsent F.parts F.lined w;
-              filled = subst (λ (x : Turned). TurnedAs P n F.left t' path' profile' out' x) q f;
+              filled = subst (λ (x : Option Page). TurnedAs P n F.left t' path' profile' out' x) q f;
             }
         by (inr w) = absurd (omega arith)
 
 -- ---- the text
 
-pub opens_as : (text : List ℕ) (words : List ℤ) {r : Opened} (x : Opened) → Opens text words r → r ≡ x
+pub opens_as : (text : List ℕ) (words : List ℤ) {r : Result (ℕ × Sizes) Unread} (x : Result (ℕ × Sizes) Unread) → Opens text words r → r ≡ x
     → Opens text words x
-opens_as text words x o e = subst (λ (y : Opened). Opens text words y) e o
+opens_as text words x o e = subst (λ (y : Result (ℕ × Sizes) Unread). Opens text words y) e o
 
 -- ---- a refusal
+
+pub unread_short : (u : Unread) → length (read_said (Err u)) ≤ 2
+unread_short (Faulty line) = omega arith
+unread_short (Refused k) = omega arith
 
 -- its line is all that is printed
 module _ (text ns : List ℕ) {out out' : List ℕ} {sent used : ℕ} (e : opened text ≡ refused ns)

@@ -1,11 +1,11 @@
 -- What the program makes of a text before it searches.
-use Rattle.std.specs.Prelude.{true, List, [], ◌∷◌, ◌≡◌, ℕ, ◌≤◌, ℤ, length, take}
+use Rattle.std.specs.Prelude.{true, List, ◌≡◌, ℕ, ◌≤◌, ℤ, length, take, Result, Ok, Err}
 use Rattle.rules.specs.declared.Sizes.{Sizes}
+use Rattle.rules.specs.declared.Unread.{Unread}
 use Rattle.rules.specs.Problem.{door_limits}
+use Rattle.rules.specs.Text.{read_said}
 use Rattle.rules.specs.Cover.{refused, accepted, opened}
 use Rattle.problem.specs.Room.{Accepted}
-use Rattle.cover.specs.declared.open.Opened.{Opened}
-use Rattle.cover.specs.declared.open.Opened.TheVariants as OpenedSays
 
 -- the first words of the list are those of the text, and the limits allow them
 pub record OpensTo (text : List ℕ) (words : List ℤ) (count : ℕ) (s : Sizes) : Type 0 where
@@ -13,7 +13,6 @@ pub record OpensTo (text : List ℕ) (words : List ℤ) (count : ℕ) (s : Sizes
   pub is : opened text ≡ accepted (take count words)
   pub allowed : Accepted door_limits 1 (λ s. true) (take count words) s
 
-abbrev pub Opens : List ℕ → List ℤ → Opened → Type 0
-Opens text words (OpenedSays.Refused k) = opened text ≡ refused (k ∷ [])
-Opens text words (OpenedSays.Faulty k) = opened text ≡ refused (13 ∷ k ∷ [])
-Opens text words (OpenedSays.Accepted count s) = OpensTo text words count s
+abbrev pub Opens : List ℕ → List ℤ → Result (ℕ × Sizes) Unread → Type 0
+Opens text words (Ok (count, s)) = OpensTo text words count s
+Opens text words (Err u) = opened text ≡ refused (read_said (Err u))

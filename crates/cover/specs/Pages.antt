@@ -1,5 +1,5 @@
 -- A buffer of lines, and the solutions that are to come after it.
-use Rattle.std.specs.Prelude.{List, ◌++◌, ◌≡◌, ℕ, ◌+◌, ◌≤◌, ◌<◌, ℤ, length, take}
+use Rattle.std.specs.Prelude.{List, ◌++◌, ◌≡◌, ℕ, ◌+◌, ◌≤◌, ◌<◌, ℤ, length, take, Option, None, Some}
 use Rattle.rules.specs.declared.State.{State}
 use Rattle.rules.specs.Lists.{flat}
 use Rattle.rules.specs.Problem.{Problem}
@@ -10,8 +10,6 @@ use Rattle.rules.specs.Cover.{line}
 use Rattle.knuth.specs.Trace.{to_come}
 use Rattle.knuth.specs.Written.{lost, Moved}
 use Rattle.search.specs.Points.{Begun, Profile}
-use Rattle.cover.specs.declared.Turned.{Turned}
-use Rattle.cover.specs.declared.Turned.TheVariants.{To, Lost}
 use Rattle.cover.specs.declared.page.Page.{Page}
 use Rattle.cover.specs.declared.page.Page.TheVariants.{All, More}
 
@@ -59,11 +57,11 @@ pub record Filled (P : Problem) (n : ℕ) (all : List (List ℕ)) (t path : List
   pub page : FilledAs P n all t path profile out r
 
 -- what writing the page did to the count of bytes sent: where no page follows, the write failed
-abbrev pub MovedAs : ℕ → ℕ → ℕ → Turned → Type 0
-MovedAs sent used sent' (To page) = Moved sent used sent'
-MovedAs sent used sent' Lost = sent' ≡ lost
+abbrev pub MovedAs : ℕ → ℕ → ℕ → Option Page → Type 0
+MovedAs sent used sent' (Some page) = Moved sent used sent'
+MovedAs sent used sent' None = sent' ≡ lost
 
 -- the next page, if this one could be written
-abbrev pub TurnedAs : Problem → ℕ → List (List ℕ) → List ℤ → List ℤ → List ℕ → List ℕ → Turned → Type 0
-TurnedAs P n all t path profile out (To page) = Filled P n all t path profile out page
-TurnedAs P n all t path profile out Lost = Unit
+abbrev pub TurnedAs : Problem → ℕ → List (List ℕ) → List ℤ → List ℤ → List ℕ → List ℕ → Option Page → Type 0
+TurnedAs P n all t path profile out (Some page) = Filled P n all t path profile out page
+TurnedAs P n all t path profile out None = Unit

@@ -16,10 +16,11 @@ ghost use Rattle.door.specs.Solved.{Parts};
 ghost use Rattle.cover.specs.Pages.{Coming, SomeComing, Filled, MovedAs, TurnedAs};
 ghost use Rattle.knuth.specs.Written.{Due, Ended};
 
+use door::{PROBLEM_WORDS, TABLE_WORDS};
 use init::{init_links, table_words};
-use open::{Opened, PROBLEM_WORDS, TABLE_WORDS, open};
+use open::open;
 use page::{Page, fill};
-use print::{put_faulty, put_refused};
+use print::put_unread;
 use rules::{DOOR_ITEMS, Phase, Sizes, State};
 use streams::{LOST, put_page, read_text, say_unwritten};
 
@@ -47,14 +48,7 @@ fn begin(
     fill(t, path, profile, s.np + s.ns, ready, out)
 }
 
-// The next page, or none where this one could not be written.
-#[derive(Clone, Copy)]
-enum Turned {
-    To(Page),
-    Lost,
-}
-
-// Writes a page, and fills the next.
+// Writes a page, and fills the next, if this one could be written.
 fn turn(
     rt: &HostRuntime,
     text: &[u8],
@@ -66,7 +60,7 @@ fn turn(
     out: &mut [u8],
     used: usize,
     sent: &mut u64,
-) -> Turned
+) -> Option<Page>
     requires due { Due (printed text.now) sent.old out.old used }
     requires used_bound { sent.old + used < 18446744073709551616 }
     requires some_coming { SomeComing n t.old path.old profile.old at }
@@ -77,9 +71,9 @@ fn turn(
 {
     put_page(rt, text, out, used, sent);
     if *sent == LOST {
-        return Turned::Lost;
+        return None;
     }
-    Turned::To(fill(t, path, profile, n, at, out))
+    Some(fill(t, path, profile, n, at, out))
 }
 
 // A proved loop has to end: nobody waits for as many bytes.
@@ -113,8 +107,7 @@ fn show(
                 return;
             }
             Page::More(at, used) => {
-                let turned = turn(rt, text, t, path, profile, n, at, out, used, sent);
-                let Turned::To(next) = turned else {
+                let Some(next) = turn(rt, text, t, path, profile, n, at, out, used, sent) else {
                     return;
                 };
                 page = next;
@@ -157,15 +150,11 @@ fn answer(rt: &HostRuntime, text: &[u8], sent: &mut u64)
     let mut words = [0i32; PROBLEM_WORDS];
     let mut out = io::large_buffer();
     match open(text, &mut words) {
-        Opened::Refused(number) => {
-            let used = put_refused(&mut out, number);
+        Ok((length, s)) => solve(rt, text, &words[..length], s, &mut out, sent),
+        Err(unread) => {
+            let used = put_unread(&mut out, unread);
             put_page(rt, text, &out, used, sent);
         }
-        Opened::Faulty(line) => {
-            let used = put_faulty(&mut out, 13, line);
-            put_page(rt, text, &out, used, sent);
-        }
-        Opened::Accepted(length, s) => solve(rt, text, &words[..length], s, &mut out, sent),
     }
 }
 

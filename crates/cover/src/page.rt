@@ -14,8 +14,6 @@ use search::{go, write_found};
 // A line of 64 numbers, each of at most 20 digits and followed by a byte, with LF for one that has none.
 const LINE: usize = 1345;
 
-const MOST: u64 = 18446744073709551615;
-
 // Bytes of the buffer, with no line to come, or with the state from which the others come.
 #[derive(Clone, Copy)]
 pub enum Page {
@@ -36,14 +34,8 @@ fn put_solution(t: &[i32], path: &[i32], n: usize, level: usize, out: &mut [u8],
     put_line(out, at, &found, level)
 }
 
-fn wide(x: u32) -> usize
-    ensures { result ≡ x }
-{
-    x as usize
-}
-
 // Writes the lines of the solutions to come at a point, from the front of the buffer on, for as long as there is room
-// for another. No search takes MOST visits, so a walk that ends at no solution has met the last.
+// for another. No search takes as many visits as are allowed, so a walk that ends at no solution has met the last.
 pub fn fill(
     t: &mut [i32],
     path: &mut [i32],
@@ -60,10 +52,10 @@ pub fn fill(
     let mut state = from;
     let mut used = 0;
     while LINE <= out.len() - used {
-        let NextAnswer::Solution(at, _) = go(t, path, profile, n, state, MOST) else {
+        let NextAnswer::Solution(at, _) = go(t, path, profile, n, state, u64::MAX) else {
             return Page::All(used);
         };
-        used = put_solution(t, path, n, wide(at.depth), out, used);
+        used = put_solution(t, path, n, at.depth as usize, out, used);
         state = at;
     }
     Page::More(state, used)

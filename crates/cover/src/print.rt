@@ -1,10 +1,12 @@
 // Lines of decimal numbers, written into a buffer.
-ghost use Rattle.std.specs.Prelude.{cond, [], ◌∷◌, ◌++◌, map, ◌≡◌, ltb, ℕ, ◌+◌, ◌*◌, ◌<◌, ◌≤◌, length, take};
+ghost use Rattle.std.specs.Prelude.{cond, [], ◌∷◌, ◌++◌, map, ◌≡◌, ltb, ℕ, ◌+◌, ◌*◌, ◌<◌, ◌≤◌, length, take, Err};
 ghost use Rattle.rules.specs.Words.{nat};
+ghost use Rattle.rules.specs.Text.{read_said};
 ghost use Rattle.rules.specs.Cover.{decimal, line, refusal_line};
 ghost use Rattle.words.specs.Read.{Natural};
 ghost use Rattle.cover.specs.Lines.{Put};
 
+use rules::Unread;
 use words::link_at;
 
 // Writes the bytes from `at` on, and answers the place after them.
@@ -12,12 +14,9 @@ fn put_bytes(out: &mut [u8], at: usize, new: &[u8]) -> usize
     requires { at + length new.now ≤ length out.old }
     ensures { Put out.old at new.now out.new result }
 {
-    let mut k = 0;
-    while k < new.len() {
-        out[at + k] = new[k];
-        k += 1;
-    }
-    at + new.len()
+    let end = at + new.len();
+    out[at..end].copy_from_slice(new);
+    end
 }
 
 // A number and the byte after it.
@@ -51,16 +50,14 @@ pub fn put_line(out: &mut [u8], at: usize, list: &[i32], count: usize) -> usize
         return at + 1;
     }
     let mut next = at;
-    let mut k = 0;
-    while k < count {
+    for k in 0..count {
         next = put_number(out, next, link_at(list, k), separator(k + 1, count));
-        k += 1;
     }
     next
 }
 
 // The line of a refusal that has a number alone.
-pub fn put_refused(out: &mut [u8], number: usize) -> usize
+fn put_refused(out: &mut [u8], number: usize) -> usize
     requires { 64 ≤ length out.old }
     ensures { Put out.old 0 (refusal_line (number ∷ [])) out.new result }
 {
@@ -69,11 +66,22 @@ pub fn put_refused(out: &mut [u8], number: usize) -> usize
 }
 
 // The line of a refusal that has a number and a line's number.
-pub fn put_faulty(out: &mut [u8], number: usize, faulty: usize) -> usize
+fn put_faulty(out: &mut [u8], number: usize, faulty: usize) -> usize
     requires { 64 ≤ length out.old }
     ensures { Put out.old 0 (refusal_line (number ∷ faulty ∷ [])) out.new result }
 {
     let at = put_bytes(out, 0, b"refused ");
     let next = put_number(out, at, number, b' ');
     put_number(out, next, faulty, b'\n')
+}
+
+// The line of a text that is refused.
+pub fn put_unread(out: &mut [u8], unread: Unread) -> usize
+    requires { 64 ≤ length out.old }
+    ensures { Put out.old 0 (refusal_line (read_said (Err unread))) out.new result }
+{
+    match unread {
+        Unread::Faulty(line) => put_faulty(out, 13, line),
+        Unread::Refused(number) => put_refused(out, number as usize),
+    }
 }

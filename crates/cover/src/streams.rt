@@ -3,46 +3,30 @@ ghost use Rattle.std.specs.Prelude.{◌+◌, ◌<◌, length};
 ghost use Rattle.rules.specs.Cover.{printed};
 ghost use Rattle.io.specs.Counts.{IsPrefixLen};
 ghost use Rattle.knuth.specs.Written.{Due, Moved};
-ghost use Rattle.cover.specs.Streams.{GotWithin};
 
 use std::io::Read;
-
-// How many bytes a read brought, none where the input ends; or it failed.
-#[derive(Clone, Copy)]
-enum Got {
-    Bytes(usize),
-    Failed,
-}
-
-fn read_some(rt: &HostRuntime, buf: &mut [u8]) -> Got
-    ensures { GotWithin (length buf.new) result }
-{
-    match rt.stdin().read(buf) {
-        Ok(count) => Got::Bytes(count),
-        Err(_) => Got::Failed,
-    }
-}
 
 // Reads until the input ends or the buffer is full, and answers how many bytes came. None did if a read failed: the
 // front of a text is not the text.
 pub fn read_text(rt: &HostRuntime, buf: &mut [u8]) -> usize
     ensures { IsPrefixLen result buf.new }
 {
+    let mut stdin = rt.stdin();
     let mut done = 0;
     while done < buf.len() {
-        let Got::Bytes(more) = read_some(rt, &mut buf[done..]) else {
-            let _ = rt.eprintln("cover: the input could not be read");
-            return 0;
-        };
-        if more == 0 {
-            return done;
+        match stdin.read(&mut buf[done..]) {
+            Ok(0) => break,
+            Ok(more) => done += more,
+            Err(_) => {
+                let _ = rt.eprintln("cover: the input could not be read");
+                return 0;
+            }
         }
-        done += more;
     }
     done
 }
 
-// The count of bytes sent after a write that failed.
+// The count of bytes sent after a write that failed: a number, since `pages_printed` speaks of what was sent as one.
 pub const LOST: u64 = 18446744073709551615;
 
 // Writes the first `used` bytes of the buffer, which are those of what is printed of the text from place `sent` on, and

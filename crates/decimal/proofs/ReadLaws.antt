@@ -1,6 +1,7 @@
 -- Reading a number: one digit more, and the loop over a text. Assumes nothing.
 use mathlib.Core.Bool.{Bool, true, false, not, ◌&&◌}
 use mathlib.Core.List.{List, [], ◌∷◌}
+use Rattle.std.specs.Prelude.{Option, None, Some}
 use mathlib.Core.Path.{◌≡◌, refl, sym, ap, ◌∙◌}
 use Prim.Native.Nat.{ℕ, ◌+◌, ◌≤◌, ◌<◌}
 use native.Mathlib.Numerals.{add-one}
@@ -9,32 +10,12 @@ use borrow.Author.Tests.{le-leb, lt-leb, leb-true, leb-false}
 use lib.Dec.{eqb, leb}
 use lib.ListN.{length, get_or, drop, drop_of_length-le}
 use lib.Seq.{drop-cons}
-use Rattle.rules.specs.Lists.{each}
-use Rattle.decimal.specs.Text.{digit, longer, value, number_if, told, leads, unsigned}
-use Rattle.decimal.specs.declared.Number.TheVariants.{Is, Bad}
-use Rattle.decimal.specs.declared.Number.{Number}
+use Rattle.rules.specs.Lists.{each, when}
+use Rattle.decimal.specs.Text.{digit, longer, value, told, leads}
 
 -- v with the byte b after it, if that is a digit and the number is at most `most`
-abbrev pub extended : ℕ → ℕ → ℕ → Number
-extended v b most = number_if (digit b && leb (longer v b) most) (longer v b)
-
-module _ (v b most : ℕ) where
-  pub under_digits : b < 48 → Bad ≡ extended v b most
-  unfolding digit
-  under_digits h = rw (lt-leb 48 b h)
-
-  pub over_digits : 57 < b → Bad ≡ extended v b most
-  unfolding digit
-  over_digits h = rw (le-leb 48 b (omega arith), lt-leb b 57 h)
-
-  module _ (low : 48 ≤ b) (high : b ≤ 57) where
-    pub too_large : most < longer v b → Bad ≡ extended v b most
-    unfolding digit
-    too_large h = rw (le-leb 48 b low, le-leb b 57 high, lt-leb (longer v b) most h)
-
-    pub fits : longer v b ≤ most → Is (longer v b) ≡ extended v b most
-    unfolding digit
-    fits h = rw (le-leb 48 b low, le-leb b 57 high, le-leb (longer v b) most h)
+abbrev pub extended : ℕ → ℕ → ℕ → Option ℕ
+extended v b most = when (digit b && leb (longer v b) most) (Some (longer v b))
 
 -- ---- the loop: what the text says is what the bytes ahead say after v
 
@@ -42,9 +23,6 @@ pub record Reading (text : List ℕ) (most v i : ℕ) : Type 0 where
   pub within : i ≤ length text
   pub small : v ≤ most
   pub same : told most 0 text ≡ told most v (drop i text)
-
-pub start : (text : List ℕ) (most : ℕ) → Reading text most 0 0
-start text most = record { within = omega arith; small = omega arith; same = refl }
 
 -- the bytes ahead only add to the number
 grows : (v : ℕ) (s : List ℕ) → v ≤ value v s
@@ -56,11 +34,11 @@ and_false : (a : Bool) → (a && false) ≡ false
 and_false true = refl
 and_false false = refl
 
-no_longer : {a n : ℕ} → Is a ≡ Is n → a ≡ n
+no_longer : {a n : ℕ} → Some a ≡ Some n → a ≡ n
 no_longer e = cc
 
 module _ (v b most : ℕ) (s : List ℕ) where
-  on : {n : ℕ} (d l : Bool) → digit b ≡ d → leb (longer v b) most ≡ l → extended v b most ≡ Is n → (n ≤ most) × (told most v (b ∷ s) ≡ told most n s)
+  on : {n : ℕ} (d l : Bool) → digit b ≡ d → leb (longer v b) most ≡ l → extended v b most ≡ Some n → (n ≤ most) × (told most v (b ∷ s) ≡ told most n s)
   unfolding told value each
   on true true d l e =
       let u : longer v b ≡ _ = no_longer (rw (d, l) at e) in
@@ -68,7 +46,7 @@ module _ (v b most : ℕ) (s : List ℕ) where
   on true false d l e = absurd (let z : ◌≡◌ {A = ℕ} 0 1 = cc (rw (d, l) at e) in omega arith)
   on false l d k e = absurd (let z : ◌≡◌ {A = ℕ} 0 1 = cc (rw d at e) in omega arith)
 
-  off : (d l : Bool) → digit b ≡ d → leb (longer v b) most ≡ l → extended v b most ≡ Bad → Bad ≡ told most v (b ∷ s)
+  off : (d l : Bool) → digit b ≡ d → leb (longer v b) most ≡ l → extended v b most ≡ None → None ≡ told most v (b ∷ s)
   unfolding told value each
   off true true d l e = absurd (let z : ◌≡◌ {A = ℕ} 0 1 = cc (rw (d, l) at e) in omega arith)
   off true false d l e =
@@ -81,41 +59,26 @@ module _ {text : List ℕ} {most v i : ℕ} (I : Reading text most v i) (h : i <
   ahead : drop i text ≡ get_or text i 0 ∷ drop (i + 1) text
   ahead = rw (add-one i) (drop-cons text i 0 h)
 
-  pub turn : {n : ℕ} → extended v (get_or text i 0) most ≡ Is n → Reading text most n (i + 1)
+  pub turn : {n : ℕ} → extended v (get_or text i 0) most ≡ Some n → Reading text most n (i + 1)
   turn e =
       let o = on v (get_or text i 0) most (drop (i + 1) text) _ _ refl refl e in
       record { within = omega arith; small = o.0; same = I.same ∙ ap (told most v) ahead ∙ o.1 }
 
-  pub stop : extended v (get_or text i 0) most ≡ Bad → Bad ≡ told most 0 text
+  pub stop : extended v (get_or text i 0) most ≡ None → None ≡ told most 0 text
   stop e = off v (get_or text i 0) most (drop (i + 1) text) _ _ refl refl e ∙ sym (I.same ∙ ap (told most v) ahead)
 
-pub end : {text : List ℕ} {most v i : ℕ} → Reading text most v i → length text ≤ i → Is v ≡ told most 0 text
+pub end : {text : List ℕ} {most v i : ℕ} → Reading text most v i → length text ≤ i → Some v ≡ told most 0 text
 unfolding told value each
-end {text} {most} {v} {i} I h = sym (I.same ∙ ap (told most v) (drop_of_length-le text h) ∙ ap (λ (b : Bool). number_if b v) (le-leb v most I.small))
+end {text} {most} {v} {i} I h = sym (I.same ∙ ap (told most v) (drop_of_length-le text h) ∙ ap (λ (b : Bool). when b (Some v)) (le-leb v most I.small))
 
 -- ---- how a text leads
 
-pub leads_empty : (s : List ℕ) → length s ≡ 0 → false ≡ leads s
-unfolding leads
-leads_empty [] h = refl
-leads_empty (b ∷ s) h = absurd (omega arith)
-
 pub leads_one : (s : List ℕ) → length s ≡ 1 → true ≡ leads s
-unfolding leads
 leads_one [] h = absurd (omega arith)
 leads_one (b ∷ []) h = refl
 leads_one (b ∷ c ∷ s) h = absurd (omega arith)
 
 pub leads_more : (s : List ℕ) → (length s ≡ 0 → ⊥) → (length s ≡ 1 → ⊥) → not (eqb (get_or s 0 0) 48) ≡ leads s
-unfolding leads
 leads_more [] h k = absurd (h refl)
 leads_more (b ∷ []) h k = absurd (k refl)
 leads_more (b ∷ c ∷ s) h k = refl
-
-pub leads_not : (most : ℕ) (s : List ℕ) → leads s ≡ false → Bad ≡ unsigned most s
-unfolding unsigned
-leads_not most s e = rw e
-
-pub leads_well : (most : ℕ) (s : List ℕ) → leads s ≡ true → told most 0 s ≡ unsigned most s
-unfolding unsigned
-leads_well most s e = rw e

@@ -1,7 +1,8 @@
 -- What is written reads back. Assumes nothing.
 use mathlib.Core.Bool.{Bool, true, false, not, ◌&&◌}
 use mathlib.Core.List.{List, [], ◌∷◌, ◌++◌, append-nil}
-use mathlib.Core.Path.{◌≡◌, refl, sym, ap, ◌∙◌}
+use Rattle.std.specs.Prelude.{Some}
+use mathlib.Core.Path.{◌≡◌, refl, sym, ◌∙◌}
 use Prim.Native.Nat.{ℕ, zero, suc, ◌+◌, ◌-◌, ◌/◌, ◌%◌, ◌^◌, ◌≤◌, ◌<◌}
 use native.Mathlib.Nat.{pow-suc, pow-le-pow_right}
 use native.Mathlib.Numerals.{add-one, one-add}
@@ -13,10 +14,8 @@ use lib.IntN.{ℤ, pos, negsuc}
 use lib.ListN.{length, get_or, take, drop, set, length-append, length-set, get_or-append}
 use lib.Seq.{take_at, drop_at, take-length, drop-length}
 use Rattle.rules.specs.Lists.{each}
-use Rattle.io.specs.Counts.{IsPrefixLen}
 use Rattle.io.specs.Digits.{hex_digit_ascii, last_digits, IsDigitCount}
-use Rattle.decimal.specs.Text.{digit, longer, value, told, leads, unsigned, minus, signed, Wrote, WroteWord}
-use Rattle.decimal.specs.declared.Number.TheVariants.{Is}
+use Rattle.decimal.specs.Text.{digit, longer, value, told, leads, unsigned, Wrote, WroteWord}
 use Rattle.decimal.proofs.ReadLaws.{leads_one, leads_more}
 use Rattle.decimal.proofs.WordLaws.{unsigned_plain}
 
@@ -26,7 +25,6 @@ glyph_is : (n : ℕ) → hex_digit_ascii (n % 10) ≡ 48 + n % 10
 glyph_is n = rw (lt-ltb (n % 10) 10 (omega arith))
 
 glyph_digit : (n : ℕ) → digit (hex_digit_ascii (n % 10)) ≡ true
-unfolding digit
 glyph_digit n = rw (glyph_is n, le-leb 48 (48 + n % 10) (omega arith), le-leb (48 + n % 10) 57 (omega arith))
 
 value_last : (v : ℕ) (s : List ℕ) (b : ℕ) → value v (s ++ (b ∷ [])) ≡ longer (value v s) b
@@ -82,8 +80,8 @@ digits_lead (suc (suc k)) n F =
     sym (leads_more (last_digits 10 (suc (suc k)) n) (λ e. omega arith) (λ e. omega arith))
     ∙ rw (ne_eqb (get_or (last_digits 10 (suc (suc k)) n) 0 0) 48 (digits_first (suc k) n low F.1))
 
-pub reads_back : (k n most : ℕ) → IsDigitCount 10 1 n k → n ≤ most → unsigned most (last_digits 10 k n) ≡ Is n
-unfolding unsigned told
+pub reads_back : (k n most : ℕ) → IsDigitCount 10 1 n k → n ≤ most → unsigned most (last_digits 10 k n) ≡ Some n
+unfolding told
 reads_back k n most F h = rw (digits_lead k n F, digits_each k n, digits_value k n F.1, le-leb n most h)
 
 pub at_most_20 : (k n : ℕ) → IsDigitCount 10 1 n k → n < 2 ^ 64 → k ≤ 20
@@ -113,24 +111,9 @@ wrote_as {n} {r} {before} F h e =
       says = λ most k. rw (take_at (last_digits 10 r n) (drop r before) r l) (reads_back r n most F k);
     })
 
-module _ (text before : List ℕ) (n k : ℕ) (C : IsPrefixLen k text) (F : IsDigitCount 10 1 n k) (D : take k text ≡ last_digits 10 k n) (h : n < 2 ^ 64) where
-  pub fits : 20 ≤ length before → length (take k text) ≤ length before
-  fits room = let u = at_most_20 k n F h in let w = C.1 in omega arith
-
-  pub wrote : {after : List ℕ} {r : ℕ} → r ≡ length (take k text) → after ≡ take (length (take k text)) (take k text) ++ drop (length (take k text)) before
-      → Wrote n before after r
-  wrote e w =
-      let i : length (take k text) ≡ k = sym C.1 in
-      rw (e, i)
-      (wrote_as F h
-      (w
-      ∙ ap (λ (s : List ℕ). s ++ drop (length (take k text)) before) (take-length (take k text) ∙ D)
-      ∙ ap (λ (m : ℕ). last_digits 10 k n ++ drop m before) i))
-
 -- ---- a word written
 
 pub wrote_natural : {z : ℤ} {n r : ℕ} {before after : List ℕ} → z ≡ pos n → n < 2147483648 → Wrote n before after r → WroteWord z before after r
-unfolding signed
 wrote_natural {r = r} {after = after} e h W =
     let f = W.front in
     let u = W.says 2147483647 (omega arith) in
@@ -141,7 +124,6 @@ wrote_natural {r = r} {after = after} e h W =
 
 -- a minus sign, and n + 1 written after it
 wrote_after_minus : {z : ℤ} {n r b : ℕ} {rest ys : List ℕ} → z ≡ negsuc n → n < 2147483648 → Wrote (n + 1) rest ys r → WroteWord z (b ∷ rest) (45 ∷ ys) (1 + r)
-unfolding signed minus
 wrote_after_minus {n = n} {r = r} {ys = ys} e h W =
     let f = W.front in
     let u = W.says 2147483648 (omega arith) in

@@ -1,13 +1,10 @@
 -- What a text of bytes says as a decimal number. Only one text says a number: no leading zero, no plus sign, no `-0`.
-use Rattle.std.specs.Prelude.{Bool, true, false, not, ◌&&◌, cond, List, [], ◌∷◌, ◌≡◌, ℕ, zero, suc, ◌+◌, ◌-◌, ◌*◌, ◌≤◌, eqb, leb, ℤ, pos, negsuc, length, take, drop, set}
-use Rattle.std.proofs.Math.Option.{Option, none, some}
-use Rattle.rules.specs.Lists.{each, got}
-use Rattle.decimal.specs.declared.Number.TheVariants.{Is, Bad}
-use Rattle.decimal.specs.declared.Number.{Number}
+use Rattle.std.specs.Prelude.{Bool, true, false, not, ◌&&◌, cond, List, [], ◌∷◌, ◌≡◌, ℕ, zero, suc, ◌+◌, ◌-◌, ◌*◌, ◌≤◌, eqb, leb, ℤ, pos, negsuc, length, take, drop, set, Option, None, Some}
+use Rattle.rules.specs.Lists.{each, got, when}
 
 -- ---- unsigned
 
-unfoldable pub digit : ℕ → Bool
+abbrev pub digit : ℕ → Bool
 digit b = leb 48 b && leb b 57
 
 -- v with the digit b after it
@@ -19,51 +16,43 @@ unfoldable pub value : ℕ → List ℕ → ℕ
 value v [] = v
 value v (b ∷ bs) = value (longer v b) bs
 
-abbrev pub number_if : Bool → ℕ → Number
-number_if true n = Is n
-number_if false n = Bad
-
 -- digits alone, and a number of at most `most`
-unfoldable pub told : ℕ → ℕ → List ℕ → Number
-told most v s = number_if (each digit s && leb (value v s) most) (value v s)
+unfoldable pub told : ℕ → ℕ → List ℕ → Option ℕ
+told most v s = when (each digit s && leb (value v s) most) (Some (value v s))
 
 -- a text is not empty, and begins with 0 only where that is all
-unfoldable pub leads : List ℕ → Bool
+abbrev pub leads : List ℕ → Bool
 leads [] = false
 leads (b ∷ []) = true
 leads (b ∷ c ∷ s) = not (eqb b 48)
 
-abbrev pub led : Bool → Number → Number
-led true n = n
-led false n = Bad
-
 -- the number, at most `most`, that a text says
-unfoldable pub unsigned : ℕ → List ℕ → Number
-unsigned most s = led (leads s) (told most 0 s)
+abbrev pub unsigned : ℕ → List ℕ → Option ℕ
+unsigned most s = when (leads s) (told most 0 s)
 
 -- ---- signed 32-bit words
 
-abbrev pub from_zero : Number → Option ℤ
-from_zero (Is n) = some (pos n)
-from_zero Bad = none
+abbrev pub from_zero : Option ℕ → Option ℤ
+from_zero (Some n) = Some (pos n)
+from_zero None = None
 
-abbrev pub under_zero : Number → Option ℤ
-under_zero (Is zero) = none
-under_zero (Is (suc n)) = some (negsuc n)
-under_zero Bad = none
+abbrev pub under_zero : Option ℕ → Option ℤ
+under_zero (Some zero) = None
+under_zero (Some (suc n)) = Some (negsuc n)
+under_zero None = None
 
 -- a text begins with a minus sign, 45
-unfoldable pub minus : List ℕ → Bool
+abbrev pub minus : List ℕ → Bool
 minus [] = false
 minus (b ∷ s) = eqb b 45
 
 -- the word that a text says
-unfoldable pub signed : List ℕ → Option ℤ
+abbrev pub signed : List ℕ → Option ℤ
 signed s = cond (minus s) (under_zero (unsigned 2147483648 (drop 1 s))) (from_zero (unsigned 2147483647 s))
 
 abbrev pub stored : Option ℤ → List ℤ → ℕ → List ℤ
-stored none t a = t
-stored (some z) t a = set t a z
+stored None t a = t
+stored (Some z) t a = set t a z
 
 -- the word that was read, if there was one, stands at place a, and the answer is whether there was one
 pub record Stored (o : Option ℤ) (before : List ℤ) (a : ℕ) (answer : Bool) (after : List ℤ) : Type 0 where
@@ -81,9 +70,9 @@ pub record Fronted (before after : List ℕ) (most r : ℕ) : Type 0 where
 -- the new bytes say n
 pub record Wrote (n : ℕ) (before after : List ℕ) (r : ℕ) : Type 0 where
   pub front : Fronted before after 20 r
-  pub says : (most : ℕ) → n ≤ most → unsigned most (take r after) ≡ Is n
+  pub says : (most : ℕ) → n ≤ most → unsigned most (take r after) ≡ Some n
 
 -- the new bytes say the word z
 pub record WroteWord (z : ℤ) (before after : List ℕ) (r : ℕ) : Type 0 where
   pub front : Fronted before after 21 r
-  pub says : signed (take r after) ≡ some z
+  pub says : signed (take r after) ≡ Some z

@@ -1,100 +1,69 @@
 // Decimal numbers as text. What is read is what the digits say, and what is written reads back as the number that it was.
 #![tactic(auto)]
 
-ghost use Rattle.std.specs.Prelude.{◌&&◌, ◌≡◌, ◌≤◌, ◌<◌, leb, length};
+ghost use Rattle.std.specs.Prelude.{◌&&◌, ◌≡◌, ◌≤◌, ◌<◌, leb, length, Some, IfSome};
+ghost use Rattle.rules.specs.Lists.{when};
 ghost use Rattle.rules.specs.Words.{word};
-ghost use Rattle.decimal.specs.Text.{digit, longer, number_if, told, unsigned, minus, from_zero, under_zero, signed};
+ghost use Rattle.decimal.specs.Text.{digit, longer, told, unsigned, from_zero, under_zero, signed};
 ghost use Rattle.decimal.specs.Text.{Stored, Wrote, WroteWord};
 ghost use Rattle.decimal.specs.Text.{leads as Text·leads};
-
-// What a text says: a number, or none that is wanted.
-#[derive(Clone, Copy)]
-pub enum Number {
-    Is(u64),
-    Bad,
-}
 
 // ---- reading
 
 // The number with one digit more, if the byte is one and the number is at most `most`.
-fn extended(value: u64, byte: u8, most: u64) -> Number
-    ensures { result ≡ number_if (digit byte && leb (longer value byte) most) (longer value byte) }
+fn extended(value: u64, byte: u8, most: u64) -> Option<u64>
+    ensures { result ≡ when (digit byte && leb (longer value byte) most) (Some (longer value byte)) }
 {
-    if byte < 48 {
-        return Number::Bad;
+    if !byte.is_ascii_digit() {
+        return None;
     }
-    if 57 < byte {
-        return Number::Bad;
-    }
-    let figure = (byte - 48) as u64;
-    if most < figure {
-        return Number::Bad;
-    }
-    if (most - figure) / 10 < value {
-        return Number::Bad;
-    }
-    Number::Is(value * 10 + figure)
+    let longer = value.checked_mul(10)?.checked_add(u64::from(byte - b'0'))?;
+    if longer <= most { Some(longer) } else { None }
 }
 
 // The number of a text of digits, which may begin with any.
-fn read_digits(text: &[u8], most: u64) -> Number
-    ensures { result ≡ told most 0 text.now }
+fn read_digits(text: &[u8], most: u64) -> Option<u64>
+    ensures value { result ≡ told most 0 text.now }
+    ensures small { IfSome result (λ n. n ≤ most) }
 {
-    let mut value: u64 = 0;
-    let mut i = 0;
-    while i < text.len() {
-        let Number::Is(longer) = extended(value, text[i], most) else {
-            return Number::Bad;
-        };
-        value = longer;
-        i += 1;
+    let mut value = 0;
+    for &byte in text {
+        value = extended(value, byte, most)?;
     }
-    Number::Is(value)
+    Some(value)
 }
 
 // Whether a text begins as a number does: with no 0 before another byte.
 fn leads(text: &[u8]) -> bool
     ensures { result ≡ Text·leads text.now }
 {
-    if text.len() == 0 {
-        return false;
+    match text {
+        [] => false,
+        [_] => true,
+        [first, ..] => *first != b'0',
     }
-    if text.len() == 1 {
-        return true;
-    }
-    text[0] != b'0'
 }
 
 // The number that the whole text says, if that is at most `most`.
-pub fn read_unsigned(text: &[u8], most: u64) -> Number
-    ensures { result ≡ unsigned most text.now }
+pub fn read_unsigned(text: &[u8], most: u64) -> Option<u64>
+    ensures value { result ≡ unsigned most text.now }
+    ensures small { IfSome result (λ n. n ≤ most) }
 {
     if !leads(text) {
-        return Number::Bad;
+        return None;
     }
     read_digits(text, most)
-}
-
-fn is_negative(text: &[u8]) -> bool
-    ensures { result ≡ minus text.now }
-{
-    if text.len() == 0 {
-        return false;
-    }
-    text[0] == b'-'
 }
 
 fn read_from_zero(text: &[u8], list: &mut [i32], at: usize) -> bool
     requires { at < length list.old }
     ensures { Stored (from_zero (unsigned 2147483647 text.now)) list.old at result list.new }
 {
-    match read_unsigned(text, 2147483647) {
-        Number::Is(value) => {
-            words::put_link(list, at, value as usize);
-            true
-        }
-        Number::Bad => false,
-    }
+    let Some(value) = read_unsigned(text, 2147483647) else {
+        return false;
+    };
+    words::put_link(list, at, value as usize);
+    true
 }
 
 fn read_under_zero(text: &[u8], list: &mut [i32], at: usize) -> bool
@@ -102,26 +71,24 @@ fn read_under_zero(text: &[u8], list: &mut [i32], at: usize) -> bool
     ensures { Stored (under_zero (unsigned 2147483648 text.now)) list.old at result list.new }
 {
     match read_unsigned(text, 2147483648) {
-        Number::Is(value) => {
-            if value == 0 {
-                return false;
-            }
+        None | Some(0) => false,
+        Some(value) => {
             words::put_spacer(list, at, (value - 1) as usize);
             true
         }
-        Number::Bad => false,
     }
 }
 
-// Writes the word that the whole text says at a place of the list, and answers whether it says one.
+// Writes the word that the whole text says at a place of the list, and answers whether it says one: `Stored`, which other
+// callers rely on, says both.
 pub fn read_word(text: &[u8], list: &mut [i32], at: usize) -> bool
     requires { at < length list.old }
     ensures { Stored (signed text.now) list.old at result list.new }
 {
-    if is_negative(text) {
-        return read_under_zero(&text[1..], list, at);
+    match text {
+        [b'-', under @ ..] => read_under_zero(under, list, at),
+        _ => read_from_zero(text, list, at),
     }
-    read_from_zero(text, list, at)
 }
 
 // ---- writing

@@ -69,3 +69,5 @@ module _ (b : List ℕ) (ws : List ℤ) where
       let i = R.inside in
       let e : k ≡ length ws = omega arith in
       sym (take-length ws) ∙ rw e at R.front
+
+pub ruleset reading_laws = (read_none, read_next, read_end)

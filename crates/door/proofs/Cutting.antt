@@ -1,7 +1,7 @@
 -- More words than the limits allow: what they are refused for. Assumes nothing.
 use mathlib.Core.Path.{◌≡◌, refl, sym, ap, ◌∙◌}
 use mathlib.Core.Bool.{Bool, true, false, ◌&&◌}
-use mathlib.Core.Option.{Option, none, some}
+use Rattle.std.specs.Prelude.{Option, None, Some, Result, Err, IsErr}
 use mathlib.Core.List.{List, ◌∷◌}
 use Prim.Native.Nat.{ℕ, zero, suc, ◌+◌, ◌*◌, ◌-◌, ◌≤◌, ◌<◌}
 use native.Mathlib.Omega.{arith}
@@ -12,32 +12,33 @@ use lib.ListN.{length, take, drop, length-take}
 use lib.Seq.{get_or-take}
 use lib.Signed.{le_z, non_neg}
 use Rattle.rules.specs.declared.Limits.{Limits}
-use Rattle.rules.specs.declared.Verdict.{Verdict}
+use Rattle.rules.specs.declared.Sizes.{Sizes}
 use Rattle.rules.specs.Lists.{got}
 use Rattle.rules.specs.Words.{word, nat}
 use Rattle.rules.specs.Problem.{Pair, door_limits, need, entry_count, with_option, cut_options, judged, parts, cut, sizes, count_pairs, cut_refusal, verdict}
 use Rattle.laws.specs.Lists.{and_right, cannot}
 use Rattle.problem.specs.CutLaws.{Whole, options_at, entries_at, no_count_past, no_count_negative, count_with_room, no_count_short, cut_step, cut_lost, cut_over, cut_end, length_entries, natural, turn}
 use Rattle.problem.specs.Heads.{options_refusal}
+use Rattle.problem.specs.Measured.{judged_refused}
 
 -- ---- a walk over the options' counts
 
--- whether the words are cut right is seen from word `at`, with `ahead` options to come
-pub record Cutting (ws : List ℤ) (m at ahead : ℕ) : Type 0 where
-  pub same : got (cut_options m (drop 3 ws)) ≡ got (cut_options ahead (drop at ws))
+-- whether the words are cut right is seen from word `at`, with i of m options passed
+pub record Cutting (ws : List ℤ) (m at i : ℕ) : Type 0 where
+  pub same : got (cut_options m (drop 3 ws)) ≡ got (cut_options (m - i) (drop at ws))
   pub inside : at ≤ length ws
 
 got_with : (o : List Pair) (X : Option (List (List Pair))) → got (with_option o X) ≡ got X
-got_with o none = refl
-got_with o (some os) = refl
+got_with o None = refl
+got_with o (Some os) = refl
 
-pub cut_start : (ws : List ℤ) (m : ℕ) → 3 ≤ length ws → Cutting ws m 3 m
-cut_start ws m h = record { same = refl; inside = h }
+pub cut_start : (ws : List ℤ) (m : ℕ) → 3 ≤ length ws → Cutting ws m 3 0
+cut_start ws m h = let z : m - 0 ≡ m = omega arith in record { same = rw z refl; inside = h }
 
-module _ {ws : List ℤ} {m at ahead : ℕ} (C : Cutting ws m at ahead) where
-  module _ (z : 0 < ahead) where
-    lost : none ≡ entry_count (drop at ws) → false ≡ got (cut_options m (drop 3 ws))
-    lost e = sym (C.same ∙ ap got (cut_lost ws at ahead e z))
+module _ {ws : List ℤ} {m at i : ℕ} (C : Cutting ws m at i) where
+  module _ (z : i < m) where
+    lost : None ≡ entry_count (drop at ws) → false ≡ got (cut_options m (drop 3 ws))
+    lost e = sym (C.same ∙ ap got (cut_lost ws at (m - i) e (omega arith)))
 
     pub cut_past : length ws ≤ at → false ≡ got (cut_options m (drop 3 ws))
     cut_past h = lost (no_count_past ws at h)
@@ -50,16 +51,20 @@ module _ {ws : List ℤ} {m at ahead : ℕ} (C : Cutting ws m at ahead) where
         pub cut_short : length ws - at - 1 < 2 * k → false ≡ got (cut_options m (drop 3 ws))
         cut_short r = lost (no_count_short ws at h k e r)
 
-        pub cut_turn : 2 * k ≤ length ws - at - 1 → Cutting ws m (at + (1 + 2 * k)) (ahead - 1)
+        pub cut_turn : 2 * k ≤ length ws - at - 1 → Cutting ws m (at + (1 + 2 * k)) (i + 1)
         cut_turn r =
-            let c = cut_step ws at k (sym (count_with_room ws at h k e r)) ahead z in
+            let u : m - i - 1 ≡ m - (i + 1) = omega arith in
+            let c = cut_step ws at k (sym (count_with_room ws at h k e r)) (m - i) (omega arith) in
             record {
-              same = C.same ∙ ap got c ∙ got_with (entries_at ws (at + 1) k) (cut_options (ahead - 1) (drop (at + (1 + 2 * k)) ws));
+              same = rw (← u) (C.same ∙ ap got c ∙ got_with (entries_at ws (at + 1) k)
+                  (cut_options (m - i - 1) (drop (at + (1 + 2 * k)) ws)));
               inside = omega arith;
             }
 
-  pub cut_stop : ahead ≡ 0 → leb (length ws) at ≡ got (cut_options m (drop 3 ws))
-  cut_stop z = by (leb (length ws) at) refl ∙ sym (C.same ∙ ap (λ (i : ℕ). got (cut_options i (drop at ws))) z)
+  pub cut_stop : m ≤ i → leb (length ws) at ≡ got (cut_options m (drop 3 ws))
+  cut_stop h =
+      let z : m - i ≡ 0 = omega arith in
+      by (leb (length ws) at) refl ∙ sym (C.same ∙ ap (λ (j : ℕ). got (cut_options j (drop at ws))) z)
     where
       by : (b : Bool) → leb (length ws) at ≡ b → b ≡ got (cut_options 0 (drop at ws))
       by true e = sym (ap got (cut_end ws at (leb-true (length ws) at e)))
@@ -140,11 +145,27 @@ module _ (ws : List ℤ) (h : 3 ≤ length ws) where
       ∙ heads_later (word (take 3 ws) 0) (word (take 3 ws) 1) (word (take 3 ws) 2) (options_refusal door_limits (take 3 ws)) (λ z. options_missing (take 3 ws) (omega arith) z)
       ∙ (λ i. heads (e₀ i) (e₁ i) (e₂ i) 4)
 
--- the verdict on them
-pub heads_judged : (ws : List ℤ) {L : Limits} {hs : List ℤ} {v : Verdict} → L ≡ door_limits → hs ≡ take 3 ws → v ≡ verdict L 1 hs
-    → v ≡ judged (cut_refusal door_limits 1 (take 3 ws)) (sizes (cut (take 3 ws)))
-unfolding verdict
-heads_judged ws p q e = e ∙ rw (p, q) refl
+-- they alone are refused
+module _ (ws : List ℤ) (h : 3 ≤ length ws) {L : Limits} {hs : List ℤ} {v : Result Sizes ℕ} (p : L ≡ door_limits)
+    (q : hs ≡ take 3 ws) (e : v ≡ verdict L 1 hs) where
+  heads_judged : v ≡ judged (cut_refusal door_limits 1 (take 3 ws)) (sizes (cut (take 3 ws)))
+  unfolding verdict
+  heads_judged = e ∙ rw (p, q) refl
+
+  pub heads_refused : IsErr v
+  heads_refused = rw (heads_judged, heads_alone ws h) (some (le_z (pos 1) (word ws 0)) (le_z (pos 1) (word ws 2))
+      (non_neg (word ws 1)) (few_items (word ws 0) (word ws 1) (word ws 2)))
+    where
+      some : (np options ns few : Bool) → IsErr (judged (rows np options ns few 4) (sizes (cut (take 3 ws))))
+      some false options ns few = refl
+      some true false ns few = refl
+      some true true false few = refl
+      some true true true false = refl
+      some true true true true = refl
+
+  pub alone_is : {k : ℕ} → v ≡ Err k → k ≡ cut_refusal door_limits 1 (take 3 ws)
+  alone_is u = sym (judged_refused (cut_refusal door_limits 1 (take 3 ws)) (sizes (cut (take 3 ws)))
+      (sym u ∙ heads_judged)).0
 
 pub head_is : (ws : List ℤ) {hs : List ℤ} (k : ℕ) → k < 3 → hs ≡ take 3 ws → word hs k ≡ word ws k
 head_is ws k h e = ap (λ (l : List ℤ). word l k) e ∙ get_or-take 3 ws k (pos 0) h

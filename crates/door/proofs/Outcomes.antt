@@ -1,4 +1,5 @@
 -- The door's outcome, from its tests and what it wrote. Assumes nothing.
+use Rattle.std.specs.Prelude.{Result, Ok, Err}
 use mathlib.Core.Path.{◌≡◌, refl, sym, ap, ◌∙◌}
 use mathlib.Core.Bool.{Bool, true, false, ◌&&◌, cond}
 use mathlib.Core.List.{List, [], ◌∷◌, map}
@@ -15,14 +16,12 @@ use Rattle.rules.specs.declared.NextAnswer.TheVariants as NextSays
 use Rattle.rules.specs.declared.Phase.TheVariants.{Ready}
 use Rattle.rules.specs.declared.Sizes.{Sizes}
 use Rattle.rules.specs.declared.State.{State}
-use Rattle.rules.specs.declared.Verdict.{Verdict}
-use Rattle.rules.specs.declared.Verdict.TheVariants.{Refused, Sized}
 use Rattle.rules.specs.Lists.{flat, over}
 use Rattle.rules.specs.Words.{bytes_words, word_bytes}
 use Rattle.rules.specs.Problem.{Problem, door_limits, cut, meant, sizes, table_length, fault, need, first_of, judged, verdict, cut_refusal, problem_refusal}
 use Rattle.rules.specs.Order.{pick}
 use Rattle.rules.specs.Walk.{Walk, End, solution, exhausted, paused, numbers}
-use Rattle.rules.specs.Calls.{next_answer, next_said, end_number}
+use Rattle.rules.specs.Calls.{next_answer, walk_said, end_number}
 use Rattle.rules.specs.Door.{DoorOutcome, walk_to, door_room, door_refusal, door_out, door_walked, door_as, door_call}
 use Rattle.words.specs.Read.{Natural}
 use Rattle.problem.specs.Measured.{Within, within, table_bounds, judged_sized, judged_refused, first_some}
@@ -71,15 +70,15 @@ module _ (ws : List ℤ) (out : List ℕ) where
       by zero e = ap (λ (b : Bool). need b 9 (fault (cut ws))) (rooms e)
       by (suc k) e = refl
 
-  module _ {L : Limits} {a : ℕ} {v : Verdict} (p : L ≡ door_limits) (q : a ≡ lists_of (length out))
+  module _ {L : Limits} {a : ℕ} {v : Result Sizes ℕ} (p : L ≡ door_limits) (q : a ≡ lists_of (length out))
       (marks : ℕ) (e : v ≡ judged (problem_refusal (served L marks) 1 (room 1676 a) ws) (sizes (cut ws))) (h : door_limits.items ≤ marks) where
     judged_by : v ≡ judged refusal (sizes (cut ws))
     judged_by = e ∙ rw (served_all L marks p h, q) (ap (λ (k : ℕ). judged k (sizes (cut ws))) same_refusal)
 
-    pub stops : {k : ℕ} → v ≡ Refused k → (refusal ≡ k) × (0 < k)
+    pub stops : {k : ℕ} → v ≡ Err k → (refusal ≡ k) × (0 < k)
     stops u = judged_refused refusal (sizes (cut ws)) (sym u ∙ judged_by)
 
-    pub goes : {s : Sizes} → v ≡ Sized s → (refusal ≡ 0) × Accepted door_limits 1 (door_room out) ws s
+    pub goes : {s : Sizes} → v ≡ Ok s → (refusal ≡ 0) × Accepted door_limits 1 (door_room out) ws s
     goes u =
         let (x, y) = judged_sized refusal (sym u ∙ judged_by) in
         (x, accepted door_limits 1 (door_room out) ws x y)
@@ -159,13 +158,13 @@ module _ {P : Problem} {n : ℕ} {w whole : Walk} {profile : List ℕ} {t path :
           (λ j. record { result = 0; out = o j }) ∙ sym (ap (λ (x : End). record { result = end_number x; out = door_out x w.at out }) e)
 
   -- any other answer's number, and nothing written
-  pub ends_other : {k : ℕ} (out : List ℕ) → k ≡ (next_said r).number → ((at : State) (v : ℕ) → r ≡ NextSays.Solution at v → ⊥) → record { result = k; out = out } ≡ door_walked w out
+  pub ends_other : {k : ℕ} (out : List ℕ) → k ≡ (walk_said r).number → ((at : State) (v : ℕ) → r ≡ NextSays.Solution at v → ⊥) → record { result = k; out = out } ≡ door_walked w out
   ends_other {k} out e other = by w.end _ (length w.visited) A.answer
     where
       by : (x : End) (st : State) (v : ℕ) → r ≡ next_answer x st v → ◌≡◌ {A = DoorOutcome} (record { result = k; out = out }) (record { result = end_number x; out = door_out x w.at out })
       by solution st v p = absurd (other st v p)
-      by exhausted st v p = ap (λ (i : ℕ). record { result = i; out = out }) (e ∙ ap (λ (a : NextAnswer). (next_said a).number) p)
-      by paused st v p = ap (λ (i : ℕ). record { result = i; out = out }) (e ∙ ap (λ (a : NextAnswer). (next_said a).number) p)
+      by exhausted st v p = ap (λ (i : ℕ). record { result = i; out = out }) (e ∙ ap (λ (a : NextAnswer). (walk_said a).number) p)
+      by paused st v p = ap (λ (i : ℕ). record { result = i; out = out }) (e ∙ ap (λ (a : NextAnswer). (walk_said a).number) p)
 
 pub take_zeros : {A : Type 0} (x : A) (n k : ℕ) → k ≤ n → take k (replicate n x) ≡ replicate k x
 take_zeros x n zero h = refl

@@ -4,10 +4,9 @@
 ghost use Rattle.std.specs.Prelude.{◌≡◌, [], ◌∷◌, map, ℕ, ◌+◌, ◌*◌, ◌<◌, ◌≤◌, length, take, drop};
 ghost use Rattle.rules.specs.Lists.{flat, over, got};
 ghost use Rattle.rules.specs.Words.{nat, bytes_words, word_bytes};
-ghost use Rattle.rules.specs.Problem.{door_limits, cut, meant, judged, cut_options, cut_refusal, problem_refusal};
+ghost use Rattle.rules.specs.Problem.{door_limits, cut, meant, cut_options, cut_refusal, problem_refusal};
 ghost use Rattle.rules.specs.Order.{pick};
 ghost use Rattle.rules.specs.declared.Phase.TheVariants.{Ready};
-ghost use Rattle.rules.specs.declared.Sizes.{Sizes};
 ghost use Rattle.rules.specs.Door.{walk_to, door_room, door_walked, door_as, door_call};
 ghost use Rattle.words.specs.Read.{Natural};
 ghost use Rattle.problem.specs.Room.{Accepted};
@@ -16,32 +15,25 @@ ghost use Rattle.door.specs.Solved.{Long, Parts, lists_of};
 use init::{init_links, table_words};
 use problem::check;
 use problem::room::accept;
-use rules::{DOOR_ENTRIES, DOOR_ITEMS, DOOR_OPTIONS, NextAnswer, Sizes, Verdict, door};
+use rules::{DOOR_ENTRIES, DOOR_ITEMS, DOOR_OPTIONS, NextAnswer, Sizes, door};
 use search::{walk_to, write_found};
 use words::{is_natural, link_at, put_bytes, take_word};
 
 // The most words that a problem within the limits has: three, a count for each option, and two for each entry.
-const PROBLEM_WORDS: usize = 3 + DOOR_OPTIONS + 2 * DOOR_ENTRIES;
+pub const PROBLEM_WORDS: usize = 3 + DOOR_OPTIONS + 2 * DOOR_ENTRIES;
 
 // The length of the longest table within the limits.
-const TABLE_WORDS: usize = 2 * (DOOR_ITEMS + 2)
+pub const TABLE_WORDS: usize = 2 * (DOOR_ITEMS + 2)
     + 4 * (DOOR_ITEMS + 2 + DOOR_ENTRIES + DOOR_OPTIONS);
 
-fn wide(x: u32) -> usize
-    ensures { result ≡ x }
-{
-    x as usize
-}
-
 // Fills `words` with the first words of the bytes.
+#[tactic(auto, using(crate::proofs::Bytes::reading_laws))]
 fn read_words(bytes: &[u8], words: &mut [i32])
     requires { 4 * length words.old ≤ length bytes.now }
     ensures { words.new ≡ take (length words.old) (bytes_words bytes.now) }
 {
-    let mut k = 0;
-    while k < words.len() {
+    for k in 0..words.len() {
         take_word(bytes, 4 * k, words, k);
-        k += 1;
     }
 }
 
@@ -52,8 +44,7 @@ fn is_whole(bytes: &[u8], m: usize) -> bool
 {
     let words = bytes.len() / 4;
     let mut at: usize = 3;
-    let mut ahead = m;
-    while 0 < ahead {
+    for _ in 0..m {
         if words <= at {
             return false;
         }
@@ -67,30 +58,20 @@ fn is_whole(bytes: &[u8], m: usize) -> bool
             return false;
         }
         at += 1 + 2 * k;
-        ahead -= 1;
     }
     words <= at
 }
 
-// A refusal's number, 0 for none.
-fn number_of(v: Verdict) -> u32
-    ensures { (k : ℕ) (s : Sizes) → v ≡ judged k s → result ≡ k }
-{
-    match v {
-        Verdict::Refused(k) => k,
-        Verdict::Sized(_) => 0,
-    }
-}
-
-// The refusal of more words than the limits allow. Words that are cut right have too many entries then.
+// The refusal of more words than the limits allow, as its number: the C interface asks for numbers, here and below.
+// Words that are cut right have too many entries then.
 fn long_refusal(problem: &[u8]) -> u32
     requires { Long problem.now }
     ensures { (result ≡ cut_refusal door_limits 1 (bytes_words problem.now)) × (0 < result) }
 {
     let mut heads = [0i32; 3];
     read_words(problem, &mut heads);
-    // Where the first three words do not decide, they alone are refused as 4, since an option is missing.
-    let alone = number_of(check(&heads, door(), 1));
+    // Three words alone are refused: as 4 where they do not decide, since an option is missing.
+    let alone = check(&heads, door(), 1).unwrap_err();
     if alone != 4 {
         return alone;
     }
@@ -98,9 +79,10 @@ fn long_refusal(problem: &[u8]) -> u32
         return 4;
     }
     if is_whole(problem, link_at(&heads, 2)) {
-        return 3;
+        3
+    } else {
+        4
     }
-    4
 }
 
 // Writes the depth and the first `depth` words of `found` over the front of `out`.
@@ -111,10 +93,8 @@ fn write_out(found: &[i32], depth: usize, out: &mut [u8])
     ensures { out.new ≡ over (flat word_bytes (depth ∷ map nat (take depth found.now))) out.old }
 {
     put_bytes(out, 0, depth);
-    let mut k = 0;
-    while k < depth {
+    for k in 0..depth {
         put_bytes(out, 4 + 4 * k, link_at(found, k));
-        k += 1;
     }
 }
 
@@ -136,17 +116,18 @@ fn solve_parts(
     init_links(t, problem, s);
     let n = s.np + s.ns;
     let answer = walk_to(t, path, profile, n, number, allowance);
+    // The numbers of `NextAnswer::number`, written out: the edit `exhausted_for_paused` gives one for the other here.
     match answer {
         NextAnswer::Solution(at, _) => {
             let mut found = [0i32; DOOR_ITEMS];
-            let depth = wide(at.depth);
+            // No `From` makes a usize of a u32; that nothing is lost is proved.
+            let depth = at.depth as usize;
             write_found(t, n, path, &mut found, depth);
             write_out(&found, depth, out);
             0
         }
         NextAnswer::Exhausted(_, _) => 20,
         NextAnswer::Paused(_, _) => 21,
-        NextAnswer::Refused(_, k) => k,
     }
 }
 
@@ -176,10 +157,7 @@ fn solve(problem: &[i32], s: Sizes, number: u64, allowance: u64, out: &mut [u8])
 fn lists_of(len: usize) -> usize
     ensures { result ≡ lists_of len }
 {
-    if len < 4 {
-        return 0;
-    }
-    (len - 4) / 4
+    len.saturating_sub(4) / 4
 }
 
 // The door over words.
@@ -189,8 +167,8 @@ fn answer(problem: &[i32], number: u64, allowance: u64, out: &mut [u8]) -> u32
     let mut marks = [0usize; DOOR_ITEMS];
     let lists = lists_of(out.len());
     match accept(problem, door(), 1, TABLE_WORDS, lists, &mut marks) {
-        Verdict::Refused(k) => k,
-        Verdict::Sized(s) => solve(problem, s, number, allowance, out),
+        Err(refusal) => refusal,
+        Ok(s) => solve(problem, s, number, allowance, out),
     }
 }
 

@@ -5,7 +5,6 @@ use mathlib.Core.List.Memᴰ.{tail as there}
 use mathlib.Core.List.{List, [], ◌∷◌}
 use Prim.Native.Nat.{ℕ, suc, ◌+◌, ◌*◌, ◌-◌, ◌≤◌, ◌<◌}
 use native.Mathlib.Omega.{arith}
-use native.Mathlib.Numerals.{add-one}
 use lib.Dec.{T, ltb, ltb→lt}
 use lib.IntN.{ℤ, pos, negsuc}
 use lib.ListN.{length, set, drop}
@@ -14,15 +13,14 @@ use Rattle.rules.specs.Lists.{has}
 use Rattle.rules.specs.Words.{word, nat, below}
 use Rattle.rules.specs.Problem.{Entry, Pair, as_entry, pairs_kept}
 use Rattle.rules.specs.Order.{kept}
-use Rattle.rules.specs.Links.{top, up, down, link, join}
+use Rattle.rules.specs.Links.{top, up, down, link}
 use Rattle.laws.specs.Faults.{below_lt}
-use Rattle.words.specs.Read.{CanRise}
-use Rattle.problem.specs.CutLaws.{pair_at, entries_at, entries_step, pairs_none}
+use Rattle.problem.specs.CutLaws.{pair_at, entries_at, entries_turn, pairs_none}
 use Rattle.tables.specs.Build.{four, add, add_all}
 use Rattle.tables.specs.Undo.{rise}
-use Rattle.init.specs.SetUp.{as_entries, option_at, Clean, AllClean, Small, Live}
-use Rattle.init.proofs.AlikeLaws.{header, with_node, length_add, all_none, all_cons}
-use Rattle.init.proofs.LiveLaws.{count_stays, add_live}
+use Rattle.init.specs.SetUp.{as_entries, option_at, Clean, AllClean, Live}
+use Rattle.init.proofs.AlikeLaws.{header, all_none, all_cons}
+use Rattle.init.proofs.LiveLaws.{add_live}
 
 -- ---- entries without a fault
 
@@ -45,73 +43,62 @@ kept_as np n (e ∷ o) h = rw (kept_as np n o (λ d m. h d (there m)), test_same
 
 -- ---- one entry
 
-pub small_natural : {z : ℤ} {q : ℕ} → Small z q → T (non_neg z)
-small_natural S = rw S.is tt
-
-pub small_link : (t : List ℤ) (k r : ℕ) {q : ℕ} → Small (word t k) q → r ≡ link t k → r < q
-small_link t k r S e = let l = S.less in omega (arith, ap nat S.is)
-
 -- the stores of node q, whose item's header is i and was linked up to u
 module _ (n : ℕ) (t : List ℤ) (q : ℕ) (e : Entry) (i u : ℕ) (ei : i ≡ header e) (eu : u ≡ link t (up n i)) {t4 t5 t6 : List ℤ}
     (m4 : t4 ≡ four t (top n q) (pos i) (pos u) (pos i) (pos e.colour)) (m5 : t5 ≡ set t4 (down n u) (pos q)) (m6 : t6 ≡ set t5 (up n i) (pos q)) where
-  abbrev was : ℕ
-  was = link t (up n (header e))
-
-  joined : t6 ≡ join (with_node n t q e was) (down n was) (pos q) (up n (header e)) (pos q)
-  joined = cc
-
-  pub can_rise : Live n q t → top n (suc q) ≤ length t → e.item < n → q ≤ 2147483647 → CanRise t6 (top n i)
-  can_rise L r j h =
-      let s = L.count i (omega arith) (omega arith) in
-      let w : word t6 (top n i) ≡ word t (top n i) = rw ei (ap (λ (v : List ℤ). word v (top n (header e))) joined ∙ count_stays n t q e L r j) in
-      let v : word t6 (top n i) ≡ pos s.number = w ∙ s.is in
-      (rw v tt, rw v (let l = s.less in omega arith))
-
   pub add_made : {t7 : List ℤ} → t7 ≡ rise t6 (top n i) → t7 ≡ add n t q e
   unfolding add
   add_made m7 = cc
 
 -- ---- all entries
 
--- k entries at p go to the nodes from q on; `left` of them are ahead at `at`, for the nodes from `node` on
-pub record Adding (t₀ : List ℤ) (n q : ℕ) (ws : List ℤ) (p k : ℕ) (t : List ℤ) (at node left : ℕ) : Type 0 where
-  pub room : at + 2 * left ≤ length ws
-  pub along : node + left ≡ q + k
-  pub size : length t ≡ length t₀
-  pub clean : AllClean n (entries_at ws at left)
-  pub live : Live n node t
-  pub same_words : add_all n t₀ q (option_at ws p k) ≡ add_all n t node (option_at ws at left)
+-- k entries at p go to the nodes from q on, and i of them are there
+pub record Adding (t₀ : List ℤ) (n q : ℕ) (ws : List ℤ) (p k : ℕ) (t : List ℤ) (i : ℕ) : Type 0 where
+  pub clean : AllClean n (entries_at ws (p + 2 * i) (k - i))
+  pub live : Live n (q + i) t
+  pub same_words : add_all n t₀ q (option_at ws p k) ≡ add_all n t (q + i) (option_at ws (p + 2 * i) (k - i))
 
 module _ {t₀ : List ℤ} {n q : ℕ} {ws : List ℤ} {p k : ℕ} where
-  pub adding_start : p + 2 * k ≤ length ws → AllClean n (entries_at ws p k) → Live n q t₀ → Adding t₀ n q ws p k t₀ p q k
-  adding_start h c L = record { room = h; along = refl; size = refl; clean = c; live = L; same_words = refl }
+  pub adding_start : AllClean n (entries_at ws p k) → Live n q t₀ → Adding t₀ n q ws p k t₀ 0
+  adding_start c L =
+      let e₁ : p + 2 * 0 ≡ p = omega arith in
+      let e₂ : k - 0 ≡ k = omega arith in
+      let e₃ : q + 0 ≡ q = omega arith in
+      record { clean = rw (e₁, e₂) c; live = rw e₃ L; same_words = rw (e₁, e₂, e₃) refl }
 
-  module _ {t : List ℤ} {at node left : ℕ} (I : Adding t₀ n q ws p k t at node left) where
-    module _ (z : 0 < left) where
-      ahead : entries_at ws at left ≡ pair_at ws at ∷ entries_at ws (at + 2) (left - 1)
-      ahead = let h = I.room in entries_step ws at left z (omega arith)
+  module _ {t : List ℤ} {i : ℕ} (I : Adding t₀ n q ws p k t i) where
+    module _ (z : i < k) (h : p + 2 * k ≤ length ws) where
+      abbrev this : Pair
+      this = pair_at ws (p + 2 * i)
 
-      pub adding_clean : Clean n (pair_at ws at)
-      adding_clean = I.clean (pair_at ws at) (rw ahead (here refl))
+      abbrev rest : List Pair
+      rest = entries_at ws (p + 2 * (i + 1)) (k - (i + 1))
 
-      pub adding_turn : (t' : List ℤ) → top n (node + 1) ≤ length t → t' ≡ add n t node (as_entry (pair_at ws at))
-          → Adding t₀ n q ws p k t' (at + 2) (node + 1) (left - 1)
+      ahead : entries_at ws (p + 2 * i) (k - i) ≡ this ∷ rest
+      ahead = entries_turn ws p k i z h
+
+      pub adding_clean : Clean n this
+      adding_clean = I.clean this (rw ahead (here refl))
+
+      pub adding_turn : (t' : List ℤ) → top n (q + i + 1) ≤ length t → t' ≡ add n t (q + i) (as_entry this)
+          → Adding t₀ n q ws p k t' (i + 1)
       adding_turn t' s e =
-          let h = I.room in
-          let a = I.along in
+          let u : suc (q + i) ≡ q + (i + 1) = omega arith in
           record {
-            room = omega arith;
-            along = omega arith;
-            size = ap length e ∙ length_add n t node (as_entry (pair_at ws at)) ∙ I.size;
             clean = λ x m. I.clean x (rw ahead (there m));
-            live = rw (e, add-one node) (add_live n t node (as_entry (pair_at ws at)) I.live (omega arith) (below_lt n (word ws at) adding_clean.item));
+            live = rw (e, ← u) (add_live n t (q + i) (as_entry this) I.live (omega arith)
+                (below_lt n (word ws (p + 2 * i)) adding_clean.item));
             same_words =
-                I.same_words ∙ ap (λ (o : List Pair). add_all n t node (as_entries o)) ahead ∙ all_cons n t node (as_entry (pair_at ws at)) (option_at ws (at + 2) (left - 1))
-                ∙ rw (← e, ← add-one node) refl;
+                I.same_words ∙ ap (λ (o : List Pair). add_all n t (q + i) (as_entries o)) ahead
+                ∙ all_cons n t (q + i) (as_entry this) (as_entries rest) ∙ rw (e, u) refl;
           }
 
-    pub adding_end : left ≡ 0 → t ≡ add_all n t₀ q (option_at ws p k)
-    adding_end z =
+    pub adding_end : k ≤ i → t ≡ add_all n t₀ q (option_at ws p k)
+    adding_end h =
+        let z : k - i ≡ 0 = omega arith in
         sym
-        (I.same_words ∙ ap (λ (j : ℕ). add_all n t node (option_at ws at j)) z
-        ∙ ap (λ (o : List Pair). add_all n t node (as_entries o)) (pairs_none (drop at ws)) ∙ all_none n t node)
+        (I.same_words ∙ ap (λ (j : ℕ). add_all n t (q + i) (option_at ws (p + 2 * i) j)) z
+        ∙ ap (λ (o : List Pair). add_all n t (q + i) (as_entries o)) (pairs_none (drop (p + 2 * i) ws))
+        ∙ all_none n t (q + i))
+
+pub ruleset adding_laws = (item_natural, item_small, adding_start, adding_clean, adding_turn, adding_end)

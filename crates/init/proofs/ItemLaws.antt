@@ -27,29 +27,6 @@ length_bare np ns = fresh_length (bare np ns) ∙ omega arith
 abbrev pub Row : List ℤ → ℕ → Type 0
 Row t i = (j : ℕ) → j < i → (word t (right j) ≡ pos (j + 1)) × (word t (left (j + 1)) ≡ pos j)
 
-pub row_none : (t : List ℤ) → Row t 0
-row_none t j h = absurd (omega arith)
-
-row_more : (t : List ℤ) (i : ℕ) → Row t i → left (i + 1) < length t → Row (set (set t (right i) (pos (i + 1))) (left (i + 1)) (pos i)) (i + 1)
-row_more t i R l j h = go (ℕ_discrete j i)
-  where
-    t1 : List ℤ
-    t1 = set t (right i) (pos (i + 1))
-
-    go : Dec (j ≡ i) → (word (set t1 (left (i + 1)) (pos i)) (right j) ≡ pos (j + 1)) × (word (set t1 (left (i + 1)) (pos i)) (left (j + 1)) ≡ pos j)
-    go (yes e) = rw e (
-      get_or-set_other t1 (left (i + 1)) (right i) (pos i) (pos 0) (omega arith) ∙ get_or-set_same t (right i) (pos (i + 1)) (pos 0) (omega arith),
-      get_or-set_same t1 (left (i + 1)) (pos i) (pos 0) (omega (arith, length-set t (right i) (pos (i + 1)))),
-    )
-    go (no e) =
-        let r = R j (omega arith) in (
-          get_or-set_other t1 (left (i + 1)) (right j) (pos i) (pos 0) (omega arith) ∙ get_or-set_other t (right i) (right j) (pos (i + 1)) (pos 0) (λ z. e (omega arith)) ∙ r.0,
-          get_or-set_other t1 (left (i + 1)) (left (j + 1)) (pos i) (pos 0) (λ z. e (omega arith)) ∙ get_or-set_other t (right i) (left (j + 1)) (pos (i + 1)) (pos 0) (omega arith) ∙ r.1,
-        )
-
-pub row_made : (t : List ℤ) (i : ℕ) → Row t i → left (i + 1) < length t → {u1 u2 : List ℤ} → u1 ≡ set t (right i) (pos (i + 1)) → u2 ≡ set u1 (left (i + 1)) (pos i) → Row u2 (i + 1)
-row_made t i R l e1 e2 = rw (e2, e1) (row_more t i R l)
-
 -- ---- the rings
 
 module _ (np ns : ℕ) (t : List ℤ) (l : 2 * (np + ns + 2) ≤ length t) (R : Row t (np + ns + 1)) where

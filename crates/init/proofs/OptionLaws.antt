@@ -1,7 +1,8 @@
 -- The options, appended one after the other.
+use Rattle.problem.specs.Sums.{met_of, met_there}
 use mathlib.Core.Path.{◌≡◌, refl, sym, ap, ◌∙◌}
 use mathlib.Core.Bool.{Bool, true, false}
-use mathlib.Core.Option.{none, some}
+use Rattle.std.specs.Prelude.{None, Some}
 use mathlib.Core.List.Memᴰ.{head as here}
 use mathlib.Core.List.Memᴰ.{map as map-in}
 use mathlib.Core.List.Memᴰ.{of_map as map-mem}
@@ -17,7 +18,8 @@ use Rattle.rules.specs.Order.{kept, spacer_after, place, placed}
 use Rattle.rules.specs.Links.{top, fresh}
 use Rattle.laws.specs.Faults.{Good, faultless, good_meant}
 use Rattle.laws.specs.Lists.{take_mem, drop_mem}
-use Rattle.problem.specs.CutLaws.{entries_at, options_at, Whole, length_entries, length_options, count_word, never_missing, Turn, turn}
+use Rattle.problem.specs.CutLaws.{entries_at, options_at, Whole, length_entries, length_options, count_room}
+use Rattle.problem.specs.CutLaws.{count_word, never_missing, Turn, turn}
 use Rattle.problem.specs.Measured.{Measured, whole_options, cut_is}
 use Rattle.tables.specs.Build.{add_all}
 use Rattle.tables.specs.Fresh.{fresh_length}
@@ -179,10 +181,10 @@ module _ {ws : List ℤ} {s : Sizes} {m : ℕ} {t₀ : List ℤ} (E : Enters ws 
     left h = let l = E.most in omega arith
 
     -- the option is there
-    pub entering_there : number < m → none ≡ entry_count (drop at ws) → ⊥
+    pub entering_there : number < m → None ≡ entry_count (drop at ws) → ⊥
     entering_there h = never_missing ws at (s.options - number) (left h) I.whole
 
-    module _ (h : number < m) (k : ℕ) (e : some k ≡ entry_count (drop at ws)) where
+    module _ (h : number < m) (k : ℕ) (e : Some k ≡ entry_count (drop at ws)) where
       now_at : Turn ws at (s.options - number) k
       now_at = turn ws at (s.options - number) (left h) I.whole k (count_word ws at k (sym e))
 
@@ -227,3 +229,18 @@ module _ {ws : List ℤ} {s : Sizes} {m : ℕ} {t₀ : List ℤ} (E : Enters ws 
 
     pub entering_end : m ≤ number → Alike (top (s.np + s.ns) (nodes (first ws s m))) t (fresh (first ws s m))
     entering_end h = let f = I.few in let e : m ≡ number = omega arith in rw e I.holds.begins
+
+pub ruleset append_laws = (appends_live, nodes_kept, append_kept, append_skipped)
+
+pub ruleset entering_laws = (
+  entering_start,
+  entering_there,
+  entering_appends,
+  entering_turn,
+  entering_end,
+  met_of,
+  met_there,
+  count_room,
+)
+
+pub ruleset all_laws = (nodes_all, enters_all, all_entered)

@@ -12,11 +12,9 @@ pub fn init_links(t: &mut [i32], np: usize, ns: usize)
     ensures { Alike (2 * (np + ns + 2)) t.new (fresh (bare np ns)) }
 {
     let n = np + ns;
-    let mut i = 0;
-    while i < n + 1 {
+    for i in 0..n + 1 {
         put_link(t, 2 * i + 1, i + 1);
         put_link(t, 2 * (i + 1), i);
-        i += 1;
     }
     put_link(t, 2 * (np + 1), n + 1);
     put_link(t, 2 * (n + 1) + 1, np + 1);

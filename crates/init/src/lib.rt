@@ -1,5 +1,5 @@
 // Set-up: the fresh table of a problem whose words passed the test, under the Rust's names. `items` and `opts` have what `lib.rs` has in the
-// traits of these names.
+// traits of these names. Table and n stay parameters, as in `links`.
 #![tactic(auto)]
 
 mod items;
@@ -22,6 +22,7 @@ pub fn table_words(s: Sizes) -> usize
 }
 
 // Writes the table of the problem whose sizes are s.
+#[tactic(auto, using(crate::proofs::OptionLaws::all_laws))]
 pub fn init_links(t: &mut [i32], problem: &[i32], s: Sizes)
     requires measured { Measured problem.now s }
     requires problem_value { fault (cut problem.now) ≡ 0 }

@@ -9,11 +9,12 @@ ghost use Rattle.tables.specs.Build.{four, add, add_all};
 ghost use Rattle.tables.specs.Nodes.{nodes};
 ghost use Rattle.init.specs.SetUp.{Alike, bare, longer, option_at, first, AllClean, Live, end_option, Holds, Appends, CanAppend, Enters};
 
-use problem::{Entries, read_option};
+use problem::read_option;
 use rules::Sizes;
 use words::{link_at, put_link, put_spacer, raise_at};
 
-// The words of node q: its item, or a header's length; its links up and down; its colour.
+// The words of node q: its item, or a header's length; its links up and down; its colour. A struct of these four is no
+// plainer: a literal of it takes eleven lines at each call.
 fn put_node(t: &mut [i32], n: usize, q: usize, item: usize, u: usize, d: usize, colour: usize)
     requires q_in_bounds { top n (q + 1) ≤ length t.old }
     requires item_bound { (item < 2147483648) × (u < 2147483648) × (d < 2147483648) × (colour < 2147483648) }
@@ -34,15 +35,14 @@ fn init_headers(t: &mut [i32], np: usize, ns: usize)
     ensures { Alike (top (np + ns) (np + ns + 2)) t.new (fresh (bare np ns)) }
 {
     let n = np + ns;
-    let mut i = 0;
-    while i < n + 1 {
+    for i in 0..n + 1 {
         put_node(t, n, i, 0, i, i, 0);
-        i += 1;
     }
     put_node(t, n, n + 1, 0, 0, 0, 0);
 }
 
 // Node q becomes the last of the list of `item`.
+#[tactic(auto, using(crate::proofs::EntryLaws::add_made))]
 fn add_entry(t: &mut [i32], n: usize, q: usize, item: usize, colour: usize)
     requires item_lt_n { item < n }
     requires q_in_bounds { (top n (q + 1) ≤ length t.old) × (q < 2147483648) × (colour < 2147483648) }
@@ -59,24 +59,21 @@ fn add_entry(t: &mut [i32], n: usize, q: usize, item: usize, colour: usize)
 }
 
 // The k entries at p go to the nodes from q on.
+#[tactic(auto, using(crate::proofs::EntryLaws::adding_laws))]
 fn add_entries(t: &mut [i32], n: usize, q: usize, ws: &[i32], p: usize, k: usize)
     requires k_in_bounds { (p + 2 * k ≤ length ws.now) × (top n (q + k) ≤ length t.old) × (q + k ≤ 2147483648) }
     requires all_clean { AllClean n (entries_at ws.now p k) }
     requires live { Live n q t.old }
     ensures { t.new ≡ add_all n t.old q (option_at ws.now p k) }
 {
-    let mut at = p;
-    let mut node = q;
-    let mut left = k;
-    while 0 < left {
-        add_entry(t, n, node, link_at(ws, at), link_at(ws, at + 1));
-        at += 2;
-        node += 1;
-        left -= 1;
+    for i in 0..k {
+        let at = p + 2 * i;
+        add_entry(t, n, q + i, link_at(ws, at), link_at(ws, at + 1));
     }
 }
 
 // The spacers around option `number`, whose k entries follow the spacer p.
+#[tactic(auto, unfolding(crate::specs::SetUp::end_option, tables::specs::Build::close))]
 fn end_option(t: &mut [i32], n: usize, number: usize, p: usize, k: usize)
     requires { (top n (p + k + 2) ≤ length t.old) × (p + k + 1 < 2147483648) × (number < 2147483648) }
     ensures { t.new ≡ end_option n t.old number p k }
@@ -92,6 +89,7 @@ fn end_option(t: &mut [i32], n: usize, number: usize, p: usize, k: usize)
 
 // The option of k entries at p goes after the spacer `last`, if it is kept. The result is the last spacer then. A skipped option keeps its
 // place in the numbering, so `number` options came before this one.
+#[tactic(auto, using(crate::proofs::OptionLaws::append_laws))]
 fn append_option(
     t: &mut [i32],
     n: usize,
@@ -114,6 +112,7 @@ fn append_option(
 }
 
 // The problem's first m options.
+#[tactic(auto, using(crate::proofs::OptionLaws::entering_laws))]
 fn enter_options(t: &mut [i32], problem: &[i32], s: Sizes, m: usize)
     requires enters { Enters problem.now s m }
     requires m_in_bounds { top (s.np + s.ns) (nodes (first problem.now s m)) ≤ length t.old }
@@ -123,18 +122,15 @@ fn enter_options(t: &mut [i32], problem: &[i32], s: Sizes, m: usize)
     let n = s.np + s.ns;
     let mut at: usize = 3;
     let mut last = n + 1;
-    let mut number: usize = 0;
-    while number < m {
-        let Entries::Of(k, keep) = read_option(problem, at, s.np) else {
-            return;
-        };
+    for number in 0..m {
+        let (k, keep) = read_option(problem, at, s.np).unwrap();
         last = append_option(t, n, number, last, problem, at + 1, k, keep);
         at += 1 + 2 * k;
-        number += 1;
     }
 }
 
 // The headers and the problem's first m options, where the rings of items stand already.
+#[tactic(auto, using(crate::proofs::OptionLaws::nodes_least))]
 pub fn init_links(t: &mut [i32], problem: &[i32], s: Sizes, m: usize)
     requires enters { Enters problem.now s m }
     requires m_in_bounds { top (s.np + s.ns) (nodes (first problem.now s m)) ≤ length t.old }

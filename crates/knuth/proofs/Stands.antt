@@ -1,9 +1,8 @@
 -- A search that stands at a point: Next is accepted there, and stands at the point that its walk ended at.
-use Rattle.std.specs.Prelude.{◌≡◌, leb, ℤ, negsuc, take}
+use Rattle.std.specs.Prelude.{◌≡◌, leb, ℤ, negsuc, take, Option, None, Some}
 use Rattle.std.proofs.Math.Path.{refl}
 use Rattle.std.proofs.Common.{ap, ◌∙◌, arith, leb→le, le→leb}
 use Rattle.std.proofs.Math.Bool.{Bool}
-use Rattle.std.proofs.Math.Option.{Option, none, some}
 use mathlib.Core.List.Memᴰ.{not-nil}
 use mathlib.Core.List.{List, [], map}
 use Prim.Native.Nat.{ℕ, ◌≤◌, ◌<◌}
@@ -94,7 +93,7 @@ pub record Stands (L : Limits) (ws : List ℤ) (l : NextLent) (st : State) (s : 
   pub meaning : Meant L ws
   pub room : Roomy l (sizes (cut ws))
   pub counts : T (counts_fit st (take (cut ws).np l.profile))
-  pub at : lent_point (cut ws) st l.table l.path ≡ some s
+  pub at : lent_point (cut ws) st l.table l.path ≡ Some s
 
 module _ {L : Limits} {ws : List ℤ} {l : NextLent} {st : State} where
   pub accepted→ : Accepted L ws l st → Stands L ws l st (stands_at ws l st)
@@ -107,9 +106,9 @@ module _ {L : Limits} {ws : List ℤ} {l : NextLent} {st : State} where
       let m = problem→ L ws (next_room l) a.0 in
       record { meaning = m.0; room = room→ l (sizes (cut ws)) m.1; counts = b.0; at = there_is o (need_holds (got o) 9 0 b.1).0 }
     where
-      there_is : (o : Option (List Level)) → T (got o) → o ≡ some (levels_or_top o)
-      there_is none t = absurd t
-      there_is (some s) t = refl
+      there_is : (o : Option (List Level)) → T (got o) → o ≡ Some (levels_or_top o)
+      there_is None t = absurd t
+      there_is (Some s) t = refl
 
   pub accepted← : {s : List Level} → Stands L ws l st s → Accepted L ws l st
   unfolding search_refusal
@@ -186,9 +185,9 @@ pub top_fits : {L : Limits} {ws : List ℤ} → Meant L ws → Fits (problem ws)
 unfolding meant
 top_fits {L} {ws} m = step (pick (problem ws) []) refl
   where
-    step : (r : Option ℕ) → pick (problem ws) [] ≡ r → (i : ℕ) × (pick (problem ws) [] ≡ some i)
-    step none e = let c = (pick_sound (problem ws)).ends [] e 0 (some_item L ws m) in absurd (not-nil c.1)
-    step (some i) e = (i, e)
+    step : (r : Option ℕ) → pick (problem ws) [] ≡ r → (i : ℕ) × (pick (problem ws) [] ≡ Some i)
+    step None e = let c = (pick_sound (problem ws)).ends [] e 0 (some_item L ws m) in absurd (not-nil c.1)
+    step (Some i) e = (i, e)
 
 -- lent words that hold the fresh table and a clear path in front are the top
 pub top_stands : {L : Limits} {ws : List ℤ} → Meant L ws → (l : NextLent) (u : ℕ) → Roomy l (sizes (cut ws))

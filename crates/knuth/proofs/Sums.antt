@@ -1,5 +1,5 @@
 -- Allowances add up, call by call.
-use Rattle.std.specs.Prelude.{◌≡◌, List, ℕ, zero, suc, ◌+◌, ℤ, length}
+use Rattle.std.specs.Prelude.{◌≡◌, List, ℕ, zero, suc, ◌+◌, ℤ, length, Ok}
 use Rattle.std.proofs.Math.Path.{refl, ap}
 use Rattle.std.proofs.Common.{◌∙◌, arith}
 use Rattle.std.proofs.Math.ListN.{length-append}
@@ -23,8 +23,9 @@ use Rattle.laws.specs.Reached.{joined}
 use Rattle.knuth.specs.Series.{problem, with_visits, then_call_from, then_call}
 use Rattle.knuth.proofs.Stands.{Stands, accepted→, next_walked, next_stands, walk_of, walk_ended}
 
-answer_visits : (e : End) (st : State) (n k : ℕ) → with_visits n (next_answer e st k) ≡ next_answer e st (n + k)
-answer_visits solution st n k = ap (NextSays.Solution st) (omega arith)
+answer_visits : (e : End) (st : State) (n k : ℕ)
+    → with_visits n (Ok (next_answer e st k)) ≡ Ok (next_answer e st (n + k))
+answer_visits solution st n k = ap (λ (i : ℕ). Ok (NextSays.Solution st i)) (omega arith)
 answer_visits exhausted st n k = refl
 answer_visits paused st n k = refl
 
@@ -63,7 +64,8 @@ module _ {L : Limits} {ws : List ℤ} {l : NextLent} {st : State} {s : List Leve
       w = walk_of S a
 
       step : (e : End) → (walk_of S a).end ≡ e → walked P l st (go_on_from e w (λ t. resume P (pick P) b Ready t))
-          ≡ then_call_from (next_answer e (moved (started st) w) (length w.visited)) (walked P l st w) (λ l' st'. next_call L ws l' st' b)
+          ≡ then_call_from (Ok (next_answer e (moved (started st) w) (length w.visited))) (walked P l st w)
+          (λ l' st'. next_call L ws l' st' b)
       step solution e = refl
       step exhausted e = refl
       step paused e =

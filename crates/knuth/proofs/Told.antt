@@ -1,5 +1,5 @@
 -- What a series of calls tells: a first part of what was to come, and all of it once a call answers exhausted.
-use Rattle.std.specs.Prelude.{◌≡◌, ◌≢◌, Bool, leb}
+use Rattle.std.specs.Prelude.{◌≡◌, ◌≢◌, Bool, leb, Ok}
 use Rattle.std.proofs.Math.Path.{refl, sym, ap}
 use Rattle.std.proofs.Common.{◌∙◌, add-zero, arith, le→leb}
 use Rattle.std.proofs.Math.Bool.{true, false}
@@ -136,7 +136,9 @@ module _ {L : Limits} {ws : List ℤ} where
         st₁ : State
         st₁ = moved (started st) w
 
-        step : (e : End) → w.end ≡ e → Tells ws (to_come P (pick P) st.phase s) l st (after_answer (next_answer e (moved (started st) w) (length w.visited)) (walked P l st w).lent later)
+        step : (e : End) → w.end ≡ e
+            → Tells ws (to_come P (pick P) st.phase s) l st
+            (after_answer (Ok (next_answer e st₁ (length w.visited))) (walked P l st w).lent later)
         step solution e =
             let q : to_come P (pick P) (phase_after w.end) w.at ≡ remains P (pick P) w.end w.at = rw e refl in
             first_tells b (later st₁) (rw q at (rec (rw e refl))) (report_call (walked P l st w).lent.found st₁ ∷ []) (rw (report_found e) (rw e refl))
@@ -200,7 +202,9 @@ module _ (L : Limits) (ws : List ℤ) where
           let q : to_come P (pick P) st.phase s ≡ record { visits = w.visited; found = found_by e w.at; updates = w.updates } then t = rw u at told in
           ap length_of q ∙ omega (arith, length-append w.visited t.visits, length-append (found_by e w.at) t.found)
 
-      step : (e : End) → w.end ≡ e → (after_answer (next_answer e (moved (started st) w) (length w.visited)) (walked P l st w).lent later).exhausted ≡ true
+      step : (e : End) → w.end ≡ e
+          → (after_answer (Ok (next_answer e (moved (started st) w) (length w.visited))) (walked P l st w).lent
+          later).exhausted ≡ true
       step solution e = rec (rw e (omega (arith, sum solution e)))
       step paused e = rec (rw e (omega (arith, sum paused e, resume_spends P (pick P) a st.phase s e)))
       step exhausted e = refl

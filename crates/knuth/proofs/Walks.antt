@@ -1,8 +1,7 @@
 -- A walk makes the first part of what was to come, and leaves the rest.
-use Rattle.std.specs.Prelude.{◌≡◌}
+use Rattle.std.specs.Prelude.{◌≡◌, Option, None, Some}
 use Rattle.std.proofs.Math.Path.{refl, sym, ap}
 use Rattle.std.proofs.Common.{◌∙◌, zero-add, add-zero, add_assoc, arith}
-use Rattle.std.proofs.Math.Option.{Option, none, some}
 use mathlib.Core.List.Memᴰ.{head as here}
 use mathlib.Core.List.Memᴰ.{tail as there}
 use mathlib.Core.List.{List, [], ◌∷◌, ◌++◌, map, append_assoc, append-nil, map-append, Memᴰ as Mem}
@@ -66,8 +65,8 @@ module _ (P : Problem) where
   module _ (rule : Rule) where
     spread_found : (below : List Level → Trace) (list : List Placed → List (List Placed)) → ((t : List Level) → (below t).found ≡ map in_turn (list (chosen t)))
         → (s : List Level) (r : Option ℕ) → (spread P s r below).found ≡ map in_turn (branch P rule (chosen s) r (λ o. list (o ∷ chosen s)))
-    spread_found below list h s none = ap (λ (l : List ℕ). l ∷ []) (numbers_told s)
-    spread_found below list h s (some i) = tries_found below list h s (choices i (open_options P (chosen s)))
+    spread_found below list h s None = ap (λ (l : List ℕ). l ∷ []) (numbers_told s)
+    spread_found below list h s (Some i) = tries_found below list h s (choices i (open_options P (chosen s)))
 
     -- the tree's solutions are those of the list
     tree_found : (d : ℕ) (s : List Level) → (tree P rule d s).found ≡ map in_turn (solutions P rule d (chosen s))
@@ -89,14 +88,14 @@ module _ (P : Problem) where
       one_more zero s h = step (rule (chosen s)) refl
         where
           step : (r : Option ℕ) → rule (chosen s) ≡ r → spread P s r (λ t. nothing) ≡ spread P s r (λ t. tree P rule 0 t)
-          step none e = refl
-          step (some i) e = absurd (omega (arith, mem_length (R.takes (chosen s) e)))
+          step None e = refl
+          step (Some i) e = absurd (omega (arith, mem_length (R.takes (chosen s) e)))
       one_more (suc d) s h = step (rule (chosen s)) refl (λ t l. one_more d t l)
         where
           step : (r : Option ℕ) → rule (chosen s) ≡ r → ((t : List Level) → length (open_items P (chosen t)) ≤ d → tree P rule d t ≡ tree P rule (suc d) t)
               → spread P s r (λ t. tree P rule d t) ≡ spread P s r (λ t. tree P rule (suc d) t)
-          step none e rec = refl
-          step (some i) e rec =
+          step None e rec = refl
+          step (Some i) e rec =
               let cs : List Choice = choices i (open_options P (chosen s)) in
               let below : (v : Level) → Mem v.tried cs → tree P rule d (v ∷ s) ≡ tree P rule (suc d) (v ∷ s) = λ v m.
               rec (v ∷ s) (omega (arith, fewer P (chosen s) v.tried.option (R.takes (chosen s) e) (choice_facts i (open_options P (chosen s)) m).1)) in
@@ -113,8 +112,8 @@ module _ (P : Problem) where
 
       -- what comes after a move, and what it costs
       abbrev after : Option Move → Trace
-      after none = nothing
-      after (some m) = pay m.updates (to_come P rule Ready m.to)
+      after None = nothing
+      after (Some m) = pay m.updates (to_come P rule Ready m.to)
 
       after_tries : (n : ℕ) (c : Choice) (cs : List Choice) (above : List Level)
           → pay n (whole P rule (deeper_by c cs above) then tries P above cs (whole P rule)) then rest P rule above ≡ pay n (to_come P rule Ready (deeper_by c cs above))
@@ -132,7 +131,7 @@ module _ (P : Problem) where
           step [] e = nothing_then (rest P rule above) ∙ e
           step (c ∷ cs) e = after_tries (cost (try P (held (made above)) c)) c cs above
 
-      enter_tells : (s : List Level) (i : ℕ) → rule (chosen s) ≡ some i → to_come P rule Ready s ≡ visit (length s) (after (enter P s i))
+      enter_tells : (s : List Level) (i : ℕ) → rule (chosen s) ≡ Some i → to_come P rule Ready s ≡ visit (length s) (after (enter P s i))
       unfolding enter tries choose
       enter_tells s i e = rw (whole_is s, e) (ap (visit (length s)) (step (choices i (open_options P (chosen s)))))
         where
@@ -146,29 +145,29 @@ module _ (P : Problem) where
               ∙ after_tries (cost (covering ++ committing)) c cs s
 
       -- a point where no item is taken is the one solution below it
-      leaf_tells : (s : List Level) → rule (chosen s) ≡ none → to_come P rule Ready s ≡ made_by (stop solution s) then rest P rule s
+      leaf_tells : (s : List Level) → rule (chosen s) ≡ None → to_come P rule Ready s ≡ made_by (stop solution s) then rest P rule s
       leaf_tells s e = rw (whole_is s, e)
 
       abbrev Tells : Trace → Walk → Type 0
       Tells t w = t ≡ made_by w then remains P rule w.end w.at
 
       follow_tells : (r : Option Move) (k : List Level → Walk) → ((t : List Level) → Tells (to_come P rule Ready t) (k t)) → Tells (after r) (follow r k)
-      follow_tells none k h = sym (nothing_then nothing)
-      follow_tells (some m) k h = ap (pay m.updates) (h m.to) ∙ sym (pay_then m.updates (made_by (k m.to)) (remains P rule (k m.to).end (k m.to).at))
+      follow_tells None k h = sym (nothing_then nothing)
+      follow_tells (Some m) k h = ap (pay m.updates) (h m.to) ∙ sym (pay_then m.updates (made_by (k m.to)) (remains P rule (k m.to).end (k m.to).at))
 
       walk_tells : (a : ℕ) (s : List Level) → Tells (to_come P rule Ready s) (walk P rule a s)
       unfolding walk
       walk_tells zero s = step (rule (chosen s)) refl
         where
           step : (r : Option ℕ) → rule (chosen s) ≡ r → Tells (to_come P rule Ready s) (at_point s r (λ i. stop paused s))
-          step none e = leaf_tells s e
-          step (some i) e = sym (nothing_then (to_come P rule Ready s))
+          step None e = leaf_tells s e
+          step (Some i) e = sym (nothing_then (to_come P rule Ready s))
       walk_tells (suc a) s = step (rule (chosen s)) refl (λ t. walk_tells a t)
         where
           step : (r : Option ℕ) → rule (chosen s) ≡ r → ((t : List Level) → Tells (to_come P rule Ready t) (walk P rule a t))
               → Tells (to_come P rule Ready s) (at_point s r (λ i. visiting (length s) (follow (enter P s i) (λ t. walk P rule a t))))
-          step none e rec = leaf_tells s e
-          step (some i) e rec = enter_tells s i e ∙ ap (visit (length s)) (follow_tells (enter P s i) (λ t. walk P rule a t) rec)
+          step None e rec = leaf_tells s e
+          step (Some i) e rec = enter_tells s i e ∙ ap (visit (length s)) (follow_tells (enter P s i) (λ t. walk P rule a t) rec)
 
       -- what a walk made, then what is left, is what was to come
       pub resume_tells : (a : ℕ) (ph : Phase) (s : List Level) → Tells (to_come P rule ph s) (resume P rule a ph s)

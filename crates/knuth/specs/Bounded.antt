@@ -1,9 +1,8 @@
 -- How many visits a search can take: twice their number is at most two to the number of its kept options, and 2.
-use Rattle.std.specs.Prelude.{◌≡◌}
+use Rattle.std.specs.Prelude.{◌≡◌, Option, None, Some}
 use Rattle.std.proofs.Math.Path.{refl}
 use Rattle.std.proofs.Common.{ap, length-append}
 use Rattle.std.proofs.Math.Bool.{Bool, true, false}
-use Rattle.std.proofs.Math.Option.{Option, none, some}
 use mathlib.Core.List.Memᴰ.{head as here}
 use mathlib.Core.List.Memᴰ.{tail as there}
 use mathlib.Core.List.{List, [], ◌∷◌, append-nil, Memᴰ as Mem}
@@ -125,8 +124,8 @@ module _ (P : Problem) where
       spread_few : (s : List Level) (r : Option ℕ) → rule (chosen s) ≡ r → (below : List Level → Trace)
           → ((t : List Level) → length (below t).visits ≤ 2 ^ length (open_options P (chosen t)))
           → 2 * length (spread P s r below).visits ≤ 2 + 2 ^ length (open_options P (chosen s))
-      spread_few s none e below h = omega arith
-      spread_few s (some i) e below h =
+      spread_few s None e below h = omega arith
+      spread_few s (Some i) e below h =
           let os : List Placed = open_options P (chosen s) in
           let cs : List Choice = choices i os in
           let j : ℕ = length os - length cs in

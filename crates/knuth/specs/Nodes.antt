@@ -1,6 +1,5 @@
 -- The choices of an item have different nodes.
-use Rattle.std.specs.Prelude.{◌≡◌, refl, ◌≢◌, Bool, true, false, cond, ◌||◌, ℕ, suc, ◌+◌, ◌<◌, T, eqb, length}
-use Rattle.std.proofs.Math.Option.{some}
+use Rattle.std.specs.Prelude.{◌≡◌, refl, ◌≢◌, Bool, true, false, cond, ◌||◌, ℕ, suc, ◌+◌, ◌<◌, T, eqb, length, Some}
 use mathlib.Core.List.Memᴰ.{head as here}
 use mathlib.Core.List.{List, [], ◌∷◌, ◌++◌, Memᴰ as Mem}
 use mathlib.Core.List.Memᴰ.{append_right as in_right}
@@ -65,12 +64,12 @@ choices_nodes P i cs =
 
 -- ---- the choice of a node
 
-pub level_back : (xs : List Choice) (v : Level) → NodesApart (xs ++ v.tried ∷ v.left) → level_of (node v.tried) (xs ++ v.tried ∷ v.left) ≡ some v
+pub level_back : (xs : List Choice) (v : Level) → NodesApart (xs ++ v.tried ∷ v.left) → level_of (node v.tried) (xs ++ v.tried ∷ v.left) ≡ Some v
 unfolding level_of
 level_back [] v a = rw (is_true (eqb (node v.tried) (node v.tried)) (eqb_refl (node v.tried)))
 level_back (x ∷ xs) v (apart_cons r a) = step (eqb (node x) (node v.tried)) refl (level_back xs v a)
   where
-    step : (b : Bool) → eqb (node x) (node v.tried) ≡ b → level_of (node v.tried) (xs ++ v.tried ∷ v.left) ≡ some v
-        → cond b (some (record { tried = x; left = xs ++ v.tried ∷ v.left })) (level_of (node v.tried) (xs ++ v.tried ∷ v.left)) ≡ some v
+    step : (b : Bool) → eqb (node x) (node v.tried) ≡ b → level_of (node v.tried) (xs ++ v.tried ∷ v.left) ≡ Some v
+        → cond b (Some (record { tried = x; left = xs ++ v.tried ∷ v.left })) (level_of (node v.tried) (xs ++ v.tried ∷ v.left)) ≡ Some v
     step true e rec = absurd (r v.tried (in_right xs (here refl)) (eqb→eq (node x) (node v.tried) (rw e tt)))
     step false e rec = rec

@@ -1,8 +1,7 @@
 -- The list of all solutions holds each solution once, and nothing else.
-use Rattle.std.specs.Prelude.{◌≡◌, ◌⊎◌, ◌≢◌, ◌↔◌, Bool, true, false, not, ◌||◌}
+use Rattle.std.specs.Prelude.{◌≡◌, ◌⊎◌, ◌≢◌, ◌↔◌, Bool, true, false, not, ◌||◌, Option, None, Some}
 use Rattle.std.proofs.Math.Path.{refl}
 use Rattle.std.proofs.Common.{sym, ap, ◌∙◌, inl, inr, arith, lt→ltb, T_not}
-use Rattle.std.proofs.Math.Option.{Option, none, some}
 use mathlib.Core.List.Memᴰ.{head as here}
 use mathlib.Core.List.Memᴰ.{tail as there}
 use mathlib.Core.List.{List, [], ◌∷◌, Memᴰ as Mem}
@@ -172,31 +171,31 @@ few P cs = omega (arith, keep_length (open_item cs) (run 0 P.np), length_run 0 P
 module _ (P : Problem) (rule : Rule) where
   -- A member of what lies below a point is the point, where no item is taken, or lies below one of the choices.
   abbrev Below : List Placed → (Placed → List (List Placed)) → List Placed → Type 0
-  Below cs rest s = ((s ≡ cs) × (rule cs ≡ none)) ⊎ ((i : ℕ) × (rule cs ≡ some i) × (c : Choice) × Mem c (choices i (open_options P cs)) × Mem s (rest c.option))
+  Below cs rest s = ((s ≡ cs) × (rule cs ≡ None)) ⊎ ((i : ℕ) × (rule cs ≡ Some i) × (c : Choice) × Mem c (choices i (open_options P cs)) × Mem s (rest c.option))
 
   branch_mem : (cs : List Placed) (rest : Placed → List (List Placed)) {s : List Placed} → Mem s (branch P rule cs (rule cs) rest) → Below cs rest s
   branch_mem cs rest {s} m = step (rule cs) refl m
     where
       step : (r : Option ℕ) → rule cs ≡ r → Mem s (branch P rule cs r rest) → Below cs rest s
-      step none e m = inl (of-singleton m, e)
-      step (some i) e m = let r = flat_mem (λ (c : Choice). rest c.option) (choices i (open_options P cs)) m in inr (i, e, r.0, r.1, r.2)
+      step None e m = inl (of-singleton m, e)
+      step (Some i) e m = let r = flat_mem (λ (c : Choice). rest c.option) (choices i (open_options P cs)) m in inr (i, e, r.0, r.1, r.2)
 
   -- What holds at a point and is kept by each choice holds of all that is listed below it; and there no item is taken.
   solutions_all : (Q : List Placed → Type 0) → ((cs : List Placed) (i : ℕ) (c : Choice) → Q cs → Mem c (choices i (open_options P cs)) → Q (c.option ∷ cs))
-      → (d : ℕ) (cs : List Placed) → Q cs → {s : List Placed} → Mem s (solutions P rule d cs) → Q s × (rule s ≡ none)
+      → (d : ℕ) (cs : List Placed) → Q cs → {s : List Placed} → Mem s (solutions P rule d cs) → Q s × (rule s ≡ None)
   unfolding solutions
   solutions_all Q more-so zero cs q {s} m = step (branch_mem cs (λ o. []) m)
     where
-      step : Below cs (λ o. []) s → Q s × (rule s ≡ none)
+      step : Below cs (λ o. []) s → Q s × (rule s ≡ None)
       step (inl (u, e)) = (rw u q, rw u e)
       step (inr (i, e, c, mc, n)) = absurd (not-nil n)
   solutions_all Q more-so (suc d) cs q {s} m = step (branch_mem cs (λ o. solutions P rule d (o ∷ cs)) m) (λ o q' n. solutions_all Q more-so d (o ∷ cs) q' n)
     where
-      step : Below cs (λ o. solutions P rule d (o ∷ cs)) s → ((o : Placed) → Q (o ∷ cs) → Mem s (solutions P rule d (o ∷ cs)) → Q s × (rule s ≡ none)) → Q s × (rule s ≡ none)
+      step : Below cs (λ o. solutions P rule d (o ∷ cs)) s → ((o : Placed) → Q (o ∷ cs) → Mem s (solutions P rule d (o ∷ cs)) → Q s × (rule s ≡ None)) → Q s × (rule s ≡ None)
       step (inl (u, e)) rec = (rw u q, rw u e)
       step (inr (i, e, c, mc, n)) rec = rec c.option (more-so cs i c q mc) n
 
-  solutions_fine : (d : ℕ) (cs : List Placed) → Fine P cs → {s : List Placed} → Mem s (solutions P rule d cs) → Fine P s × (rule s ≡ none)
+  solutions_fine : (d : ℕ) (cs : List Placed) → Fine P cs → {s : List Placed} → Mem s (solutions P rule d cs) → Fine P s × (rule s ≡ None)
   solutions_fine d cs f m = solutions_all (λ s. Fine P s) (λ cs i c f m. grow cs i f m) d cs f m
 
   solutions_hold : (d : ℕ) (cs : List Placed) {s : List Placed} → Mem s (solutions P rule d cs) → {c : Placed} → Mem c cs → Mem c s
@@ -205,7 +204,7 @@ module _ (P : Problem) (rule : Rule) where
   module _ (G : Good P) (R : Sound P rule) where
     -- ---- sound
 
-    fine_solution : {s : List Placed} → Fine P s → rule s ≡ none → Solution P (in_turn s)
+    fine_solution : {s : List Placed} → Fine P s → rule s ≡ None → Solution P (in_turn s)
     fine_solution {s} f e = record {
       listed = λ x mx. let r = told_mem s mx in rw (← r.2) (kept_option P (fine_kept f r.1)).0;
       primary = λ x mx.
@@ -223,7 +222,7 @@ module _ (P : Problem) (rule : Rule) where
           (c.0.number, told_in c.1, rw (kept_option P (fine_kept f c.1)).1 c.2);
     }
 
-    listed_from : {xs : List ℕ} → Mem xs (listed P rule) → (s : List Placed) × Fine P s × (rule s ≡ none) × (in_turn s ≡ xs)
+    listed_from : {xs : List ℕ} → Mem xs (listed P rule) → (s : List Placed) × Fine P s × (rule s ≡ None) × (in_turn s ≡ xs)
     listed_from m =
         let z = map-mem in_turn (solutions P rule P.np []) m in
         let f = solutions_fine P.np [] start z.1 in
@@ -241,7 +240,7 @@ module _ (P : Problem) (rule : Rule) where
     Differ s s' = ¬ SameSet (in_turn s) (in_turn s')
 
     -- what lies below two choices of one item differs
-    differ : (cs : List Placed) (i : ℕ) → rule cs ≡ some i → Fine P cs → {c c' : Choice} → Mem c (choices i (open_options P cs)) → Mem c' (choices i (open_options P cs))
+    differ : (cs : List Placed) (i : ℕ) → rule cs ≡ Some i → Fine P cs → {c c' : Choice} → Mem c (choices i (open_options P cs)) → Mem c' (choices i (open_options P cs))
         → c.option.number ≢ c'.option.number → (d : ℕ) (s s' : List Placed) → Mem s (solutions P rule d (c.option ∷ cs)) → Mem s' (solutions P rule d (c'.option ∷ cs)) → Differ s s'
     differ cs i e f {c} {c'} m m' ne d s s' ms ms' same =
         let fs = (solutions_fine d (c.option ∷ cs) (grow cs i f m) ms).0 in
@@ -263,14 +262,14 @@ module _ (P : Problem) (rule : Rule) where
         empty (x ∷ l) = empty l
 
         step : (r : Option ℕ) → Apart Differ (branch P rule cs r (λ o. []))
-        step none = apart_cons (λ y m. absurd (not-nil m)) apart_nil
-        step (some i) = empty (choices i (open_options P cs))
+        step None = apart_cons (λ y m. absurd (not-nil m)) apart_nil
+        step (Some i) = empty (choices i (open_options P cs))
     solutions_once (suc d) cs f = step (rule cs) refl (λ o fo. solutions_once d (o ∷ cs) fo)
       where
         step : (r : Option ℕ) → rule cs ≡ r → ((o : Placed) → Fine P (o ∷ cs) → Apart Differ (solutions P rule d (o ∷ cs)))
             → Apart Differ (branch P rule cs r (λ o. solutions P rule d (o ∷ cs)))
-        step none e rec = apart_cons (λ y m. absurd (not-nil m)) apart_nil
-        step (some i) e rec =
+        step None e rec = apart_cons (λ y m. absurd (not-nil m)) apart_nil
+        step (Some i) e rec =
             apart_flat (λ (c : Choice). solutions P rule d (c.option ∷ cs)) (choices_apart i (open_options P cs) (open_numbered P cs))
             (λ c m. rec c.option (grow cs i f m))
             (λ c c' m m' ne s s' ms ms'. differ cs i e f m m' ne d s s' ms ms')
@@ -294,7 +293,7 @@ module _ (P : Problem) (rule : Rule) where
           step (no ne) = let a = S.agreeing x y mx my ne e d me md (ie ∙ sym id) in absurd (omega (arith, a.secondary))
 
       -- where no item is open, the chosen options are all
-      full : (cs : List Placed) → Within cs → rule cs ≡ none → SameSet xs (in_turn cs)
+      full : (cs : List Placed) → Within cs → rule cs ≡ None → SameSet xs (in_turn cs)
       full cs w e x = (there_is, is_there)
         where
           there_is : Mem x xs → Mem x (in_turn cs)
@@ -347,15 +346,15 @@ module _ (P : Problem) (rule : Rule) where
       complete_from zero cs w l = step (rule cs) refl
         where
           step : (r : Option ℕ) → rule cs ≡ r → (s : List Placed) × Mem s (branch P rule cs r (λ o. [])) × SameSet xs (in_turn s)
-          step none e = (cs, here refl, full cs w e)
-          step (some i) e = absurd (omega (arith, mem_length (R.takes cs e)))
+          step None e = (cs, here refl, full cs w e)
+          step (Some i) e = absurd (omega (arith, mem_length (R.takes cs e)))
       complete_from (suc d) cs w l = step (rule cs) refl (λ o w' l'. complete_from d (o ∷ cs) w' l')
         where
           step : (r : Option ℕ) → rule cs ≡ r
               → ((o : Placed) → Within (o ∷ cs) → length (open_items P (o ∷ cs)) ≤ d → (s : List Placed) × Mem s (solutions P rule d (o ∷ cs)) × SameSet xs (in_turn s))
               → (s : List Placed) × Mem s (branch P rule cs r (λ o. solutions P rule d (o ∷ cs))) × SameSet xs (in_turn s)
-          step none e rec = (cs, here refl, full cs w e)
-          step (some i) e rec =
+          step None e rec = (cs, here refl, full cs w e)
+          step (Some i) e rec =
               let n = next_in cs w (R.takes cs e) in
               let r = rec n.0.option n.2 (omega (arith, fewer P cs n.0.option (R.takes cs e) n.3)) in
               (r.0, flat_in (λ (c : Choice). solutions P rule d (c.option ∷ cs)) n.1 r.1, r.2)

@@ -1,6 +1,5 @@
 -- What a search makes, and what is still to come at a point of it.
-use Rattle.std.specs.Prelude.{List, [], ◌∷◌, ◌++◌, ℕ, zero, suc, ◌+◌, length}
-use Rattle.std.proofs.Math.Option.{Option, none, some}
+use Rattle.std.specs.Prelude.{List, [], ◌∷◌, ◌++◌, ℕ, zero, suc, ◌+◌, length, Option, None, Some}
 use Rattle.rules.specs.declared.Phase.{Phase}
 use Rattle.rules.specs.declared.Phase.TheVariants.{Ready, Solution, Done}
 use Rattle.rules.specs.Problem.{Problem}
@@ -56,8 +55,8 @@ module _ (P : Problem) where
 
   -- "A visit is a point where an item is chosen"; a point where none is taken is a solution
   abbrev pub spread : List Level → Option ℕ → (List Level → Trace) → Trace
-  spread s none below = report s nothing
-  spread s (some i) below = visit (length s) (covers s (choices i (open_options P (chosen s))) below)
+  spread s None below = report s nothing
+  spread s (Some i) below = visit (length s) (covers s (choices i (open_options P (chosen s))) below)
 
   module _ (rule : Rule) where
     -- the tree below a point, down to d levels further

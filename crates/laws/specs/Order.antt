@@ -1,7 +1,6 @@
 -- Laws of the order of the search: what the tests say, the kept options, and what the order rule picks.
-use Rattle.std.specs.Prelude.{◌≡◌, refl, ◌⊎◌, ◌≢◌, Bool, true, false, not, ◌||◌, ℕ, zero, suc, ◌+◌, ◌<◌, T, eqb, ltb, length, get_or}
+use Rattle.std.specs.Prelude.{◌≡◌, refl, ◌⊎◌, ◌≢◌, Bool, true, false, not, ◌||◌, ℕ, zero, suc, ◌+◌, ◌<◌, T, eqb, ltb, length, get_or, None, Some}
 use Rattle.std.proofs.Common.{sym, ap, ◌∙◌, subst, inl, inr, arith, eqb→eq, T_not}
-use Rattle.std.proofs.Math.Option.{none, some}
 use mathlib.Core.List.Memᴰ.{head as here}
 use mathlib.Core.List.Memᴰ.{tail as there}
 use mathlib.Core.List.{List, [], ◌∷◌, map, Memᴰ as Mem}
@@ -126,7 +125,7 @@ place_one np m p (x ∷ os) {o} {o'} a b e =
 
 -- ---- the order rule
 
-pub least_none : (ws : List Weighed) → least ws ≡ none → {w : Weighed} → Mem w ws → ⊥
+pub least_none : (ws : List Weighed) → least ws ≡ None → {w : Weighed} → Mem w ws → ⊥
 least_none [] e m = not-nil m
 least_none (a ∷ ws) e m = cannot (cc)
 
@@ -143,7 +142,7 @@ least_from_in a (b ∷ ws) = step (ltb b.weight a.weight) refl (λ x. least_from
         move (inl u) = here u
         move (inr m) = there (there m)
 
-pub least_some : (ws : List Weighed) {i : ℕ} → least ws ≡ some i → (w : Weighed) × Mem w ws × (w.item ≡ i)
+pub least_some : (ws : List Weighed) {i : ℕ} → least ws ≡ Some i → (w : Weighed) × Mem w ws × (w.item ≡ i)
 least_some [] e = cannot (cc)
 least_some (a ∷ ws) e = (least_from a ws, least_from_in a ws, cc)
 
@@ -154,7 +153,7 @@ weigh P chosen i = record { item = i; weight = length (choices i (open_options P
 abbrev pub open_item : List Placed → ℕ → Bool
 open_item chosen i = not (has (λ c. has_item i c.entries) chosen)
 
-pub pick_none : (P : Problem) (chosen : List Placed) → pick P chosen ≡ none → (i : ℕ) → i < P.np → (c : Placed) × Mem c chosen × Has c.entries i
+pub pick_none : (P : Problem) (chosen : List Placed) → pick P chosen ≡ None → (i : ℕ) → i < P.np → (c : Placed) × Mem c chosen × Has c.entries i
 unfolding pick weigh open_items
 pick_none P chosen e i h = step (tested (has (λ c. has_item i c.entries) chosen))
   where
@@ -164,7 +163,7 @@ pick_none P chosen e i h = step (tested (has (λ c. has_item i c.entries) chosen
         let m : Mem i (open_items P chosen) = keep_in (open_item chosen) (run_in 0 P.np i (omega arith) (omega arith)) t in
         absurd (least_none (map (weigh P chosen) (open_items P chosen)) e (map-in (weigh P chosen) m))
 
-pub pick_some : (P : Problem) (chosen : List Placed) {i : ℕ} → pick P chosen ≡ some i → Mem i (open_items P chosen)
+pub pick_some : (P : Problem) (chosen : List Placed) {i : ℕ} → pick P chosen ≡ Some i → Mem i (open_items P chosen)
 unfolding pick weigh
 pick_some P chosen {i} e =
     let w = least_some (map (weigh P chosen) (open_items P chosen)) e in
@@ -222,8 +221,8 @@ choices_apart i os a = apart_map make (λ x y h. h) (apart_keep (λ o. has_item 
 
 -- it takes an uncovered primary item, and none only where each is covered
 pub record Sound (P : Problem) (rule : Rule) : Type 0 where
-  pub takes : (chosen : List Placed) {i : ℕ} → rule chosen ≡ some i → Mem i (open_items P chosen)
-  pub ends : (chosen : List Placed) → rule chosen ≡ none → (i : ℕ) → i < P.np → (c : Placed) × Mem c chosen × Has c.entries i
+  pub takes : (chosen : List Placed) {i : ℕ} → rule chosen ≡ Some i → Mem i (open_items P chosen)
+  pub ends : (chosen : List Placed) → rule chosen ≡ None → (i : ℕ) → i < P.np → (c : Placed) × Mem c chosen × Has c.entries i
 
 -- document 01's rule does
 pub pick_sound : (P : Problem) → Sound P (pick P)

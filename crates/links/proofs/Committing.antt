@@ -1,12 +1,11 @@
 -- Committing a node, whose colour says what is to be done, and the nodes of an option one after the other. And back.
 use mathlib.Core.Path.{◌≡◌, refl, sym, ap, ◌∙◌, subst}
-use mathlib.Core.Logic.{◌≢◌}
 use mathlib.Core.Bool.{Bool, true, false, not}
 use mathlib.Core.List.Memᴰ.{append_left as in_left}
 use mathlib.Core.List.Memᴰ.{append_right as in_right}
 use mathlib.Core.List.Memᴰ.{head as here}
 use mathlib.Core.List.{List, [], ◌∷◌, ◌++◌, append_assoc, append-nil, Memᴰ as Mem}
-use Prim.Native.Nat.{ℕ, zero, suc, ◌+◌, ◌*◌, ◌<◌, ◌≤◌}
+use Prim.Native.Nat.{ℕ, zero, suc, ◌<◌}
 use native.Mathlib.Omega.{arith}
 use borrow.Author.Tests.{lt-ltb}
 use lib.Dec.{T, eqb→eq, ltb→lt}
@@ -25,10 +24,9 @@ use Rattle.tables.specs.Shows.{Shows, view, marked, one_entry, touch_leads, comm
 use Rattle.tables.specs.Views.{Named, shade}
 use Rattle.tables.specs.Met.{bare_own, chosen_marked, chosen_held}
 use Rattle.links.specs.Moves.{bare, Done, CanCover, Covered, CanCommit, Committed}
-use Rattle.links.specs.Steps.{CanTouch, CanPurify, Purified, CanCommitNode, CommittedNode}
-use Rattle.links.proofs.Words.{clash, done_at}
-use Rattle.links.proofs.Round.{positive}
-use Rattle.links.proofs.Lap.{Lap, Right, right_node, right_header, right_next, Left, left_node, left_header, before, left_split, left_words}
+use Rattle.links.specs.Steps.{HasLink, CanTouch, CanPurify, Purified, CanCommitNode, CommittedNode}
+use Rattle.links.proofs.Words.{has_link, read, clash, done_at}
+use Rattle.links.specs.Laps.{Lap}
 use Rattle.links.proofs.Hiding.{others_few}
 use Rattle.links.proofs.Bounds.{commit_few}
 
@@ -59,7 +57,8 @@ module _ {z : ℤ} (b : Bool) (k : ℕ) (w : z ≡ shade b k) where
 
 -- ---- one node
 
-module _ {P : Problem} {held : List Entry} {n : ℕ} {t₁ : List ℤ} {x : Node} {p j : ℕ} (C : CanCommitNode P held n t₁ x p j) where
+module _ {P : Problem} {held : List Entry} {n : ℕ} {t₁ : List ℤ} {x : Node} {p : ℕ}
+    (C : CanCommitNode P held n t₁ x p) where
   abbrev e : Entry
   e = x.entry
 
@@ -95,6 +94,16 @@ module _ {P : Problem} {held : List Entry} {n : ℕ} {t₁ : List ℤ} {x : Node
   pub commit_colour : colour_at n p < length t₁
   commit_colour = omega (arith, C.n_is, node_inside, C.shown.shows.size)
 
+  pub commit_has : HasLink t₁ (top n p)
+  commit_has = has_link t₁ (omega (arith, C.n_is)) (top_in held t₁ C.shown.shows) (omega (
+    arith,
+    node_inside,
+    C.shown.shows.size,
+  ))
+
+  pub commit_header : {j : ℕ} → Link t₁ (top n p) j → j ≡ suc e.item
+  commit_header L = read t₁ (omega (arith, C.n_is)) (top_in held t₁ C.shown.shows) L
+
   -- its item is held: nothing is done
   pub commit_none : has_item e.item held ≡ true → Done (items P) t₁ (commit_node P (has_item e.item held) held e) t₁ 0
   unfolding cost
@@ -111,8 +120,8 @@ module _ {P : Problem} {held : List Entry} {n : ℕ} {t₁ : List ℤ} {x : Node
     can_touch = record { shown = C.shown; n_is = C.n_is; item = item_small; free = free }
 
     -- it is covered
-    pub can_cover : CanCover P held n t₁ e.item j
-    can_cover = record { header = record { shown = C.shown; n_is = C.n_is; item = item_small; is = C.header }; free = free }
+    pub can_cover : {j : ℕ} → j ≡ suc e.item → CanCover P held n t₁ e.item j
+    can_cover h = record { header = record { shown = C.shown; n_is = C.n_is; item = item_small; is = h }; free = free }
 
     is_bare : e.colour ≡ 0 → bare e.item ≡ e
     is_bare z = one_entry (bare e.item) e (sym z) refl
@@ -135,8 +144,9 @@ module _ {P : Problem} {held : List Entry} {n : ℕ} {t₁ : List ℤ} {x : Node
     pub commit_purifies : {t : List ℤ} {r : ℕ} → Done (items P) t₁ (touch P held e) t r → Done (items P) t₁ (commit_node P (has_item e.item held) held e) t r
     commit_purifies D = commit_does D
 
-module _ {P : Problem} {held : List Entry} {n : ℕ} {t₁ t : List ℤ} {x : Node} {p j : ℕ} (Q : CommittedNode P held n t₁ t x p j) where
-  C : CanCommitNode P held n t₁ x p j
+module _ {P : Problem} {held : List Entry} {n : ℕ} {t₁ t : List ℤ} {x : Node} {p : ℕ}
+    (Q : CommittedNode P held n t₁ t x p) where
+  C : CanCommitNode P held n t₁ x p
   C = Q.can
 
   abbrev d : Entry
@@ -170,9 +180,18 @@ module _ {P : Problem} {held : List Entry} {n : ℕ} {t₁ t : List ℤ} {x : No
       long false b = (shows_after b).size ∙ sym C.shown.shows.size
 
   module _ (b : has_item d.item held ≡ false) where
-    pub covered : d.colour ≡ 0 → Covered P held n t₁ t d.item j
-    covered z = record {
-      can = can_cover C b;
+    top_after : word t (top (items P) p) ≡ pos (suc d.item)
+    top_after = top_in C (d ∷ held) t (shows_after b)
+
+    pub uncommit_has : HasLink t (top n p)
+    uncommit_has = has_link t (omega (arith, C.n_is)) top_after (omega (arith, node_inside C, (shows_after b).size))
+
+    pub uncommit_header : {j : ℕ} → Link t (top n p) j → j ≡ suc d.item
+    uncommit_header L = read t (omega (arith, C.n_is)) top_after L
+
+    pub covered : d.colour ≡ 0 → {j : ℕ} → j ≡ suc d.item → Covered P held n t₁ t d.item j
+    covered z h = record {
+      can = can_cover C b h;
       is = words false b ∙ ap (λ (y : Entry). run_events (items P) t₁ (touch P held y)) (sym (is_bare C b z))
           ∙ ap (λ (k : ℕ). run_events k t₁ (touch P held (bare d.item))) (sym C.n_is);
     }
@@ -244,16 +263,15 @@ module _ {P : Problem} {held : List Entry} {n : ℕ} {t₀ : List ℤ} {c : Choi
           chosen_marked P good held (own c).item c C.listed bare_c ns (others_mem c y_in)
           ∙ sym (chosen_held P good held (own c).item c C.listed bare_c xs y ys (rw z at split))
 
-      can_commit_node : {p j : ℕ} → p ≡ y.at → j ≡ suc y.entry.item → {t : List ℤ} → t ≡ run_events (items P) t₀ (commit P h xs)
-          → CanCommitNode P (committed h xs) n t y p j
-      can_commit_node ep ej f = record {
+      can_commit_node : {p : ℕ} → p ≡ y.at → {t : List ℤ} → t ≡ run_events (items P) t₀ (commit P h xs)
+          → CanCommitNode P (committed h xs) n t y p
+      can_commit_node ep f = record {
         shown = record { good = good; small = C.shown.small; shows = rw f shows_now };
         n_is = C.n_is;
         option = c.option;
         placed_in = F.placed_in;
         node_in = others_mem c y_in;
         is = ep;
-        header = ej;
         marked_is = marked_at xs;
       }
 
@@ -270,25 +288,28 @@ module _ {P : Problem} {held : List Entry} {n : ℕ} {t₀ : List ℤ} {c : Choi
     none = refl;
     more = commit_snoc P h;
     stage = λ xs zs s. record { sees = view P (committed h xs); table = shows_now xs zs s; placed_in = F.placed_in; inside = F.inside };
+    few = λ xs zs s.
+        let r = placed_range P F.placed_in in
+        omega (arith, commit_few P C.shown.small h xs, ap length s, length-append xs zs, others_few c, C.shown.small);
   }
 
--- ---- in the loops
+-- ---- at the nodes that the walk comes to
 
 module _ {P : Problem} {held : List Entry} {n : ℕ} {t₀ : List ℤ} {c : Choice} {x : ℕ} (C : CanCommit P held n t₀ c x) where
-  pub commit_few_now : {t : List ℤ} {q u : ℕ} → Right (commit_lap C) t q u → u ≤ 2147483648 * 2147483648
-  unfolding commit_lap
-  commit_few_now K =
-      let r = placed_range P (F C).placed_in in
-      omega (arith, K.counts, commit_few P C.shown.small (own c ∷ held) K.past, ap length K.split, length-append K.past K.ahead, others_few c, C.shown.small)
+  module _ (xs : List Node) (y : Node) (zs : List Node) (s : others c ≡ xs ++ y ∷ zs) where
+    abbrev pub holding : List Entry
+    holding = committed (own c ∷ held) xs
 
-  module _ {t : List ℤ} {q u : ℕ} (K : Right (commit_lap C) t q u) (ne : q ≢ x) (b : positive t (top n q) ≡ true) where
-    pub commit_at : {j : ℕ} → Link t (top n q) j → CanCommitNode P (committed (own c ∷ held) K.past) n t (right_node K ne b).0 q j
+    pub commit_here : {t : List ℤ} → t ≡ run_events (items P) t₀ ((commit_lap C).done xs)
+        → CanCommitNode P holding n t y y.at
     unfolding commit_lap
-    commit_at L = let (y, ys, e, w) = right_node K ne b in can_commit_node C K.past K.ahead K.split y ys e w (right_header K ne b L) K.words
+    commit_here e = can_commit_node C xs (y ∷ zs) s y zs refl refl e
 
-    pub commit_next : {t' : List ℤ} {r : ℕ} → Done (items P) t (commit_after P (own c ∷ held) K.past (right_node K ne b).0) t' r → Right (commit_lap C) t' (q + 1) (u + r)
+    pub commit_step : {t t' : List ℤ} {r : ℕ}
+        → Done (items P) t (commit_node P (has_item y.entry.item holding) holding y.entry) t' r
+        → Done (items P) t ((commit_lap C).step xs y) t' r
     unfolding commit_lap
-    commit_next D = right_next K ne b D
+    commit_step D = D
 
   pub commit_all : {t : List ℤ} {u : ℕ} → Done (items P) t₀ ((commit_lap C).done (others c)) t u → Done n t₀ (try P held c) t u
   unfolding commit_lap try
@@ -299,14 +320,15 @@ module _ {P : Problem} {held : List Entry} {n : ℕ} {t₁ t₀ : List ℤ} {c :
   unfolding commit_lap try
   uncommit_words = Q.is ∙ ap (λ (k : ℕ). run_events k t₁ (commit P (own c ∷ held) (others c))) Q.can.n_is
 
-  module _ {t : List ℤ} {q : ℕ} (K : Left (commit_lap Q.can) t q) (ne : q ≢ x) (b : positive t (top n q) ≡ true) where
-    pub uncommit_at : {j : ℕ} → Link t (top n q) j
-        → CommittedNode P (committed (own c ∷ held) (left_node K ne b).0) n (before K ne b) t (left_node K ne b).1 q j
+  module _ (xs : List Node) (y : Node) (zs : List Node) (s : others c ≡ xs ++ y ∷ zs) where
+    abbrev pub before : List ℤ
+    before = run_events (items P) t₁ ((commit_lap Q.can).done xs)
+
+    pub uncommit_here : {t : List ℤ} → t ≡ run_events (items P) before ((commit_lap Q.can).step xs y)
+        → CommittedNode P (holding Q.can xs y zs s) n before t y y.at
     unfolding commit_lap
-    uncommit_at L =
-        let (ys, y, z, w) = left_node K ne b in
-        record {
-          can = can_commit_node Q.can ys (y ∷ K.ahead) (left_split K ne b) y K.ahead refl w (left_header K ne b L) refl;
-          still = still_marked Q.can ys (y ∷ K.ahead) (left_split K ne b) y K.ahead refl;
-          is = left_words K ne b;
-        }
+    uncommit_here e = record {
+      can = can_commit_node Q.can xs (y ∷ zs) s y zs refl refl refl;
+      still = still_marked Q.can xs (y ∷ zs) s y zs refl;
+      is = e;
+    }

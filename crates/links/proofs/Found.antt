@@ -1,6 +1,6 @@
 -- What the reads find: the following member of a ring or of a list, a list's length, a node's item and its option's number.
 use mathlib.Core.Path.{◌≡◌, refl, sym, ap, ◌∙◌, subst}
-use mathlib.Core.Bool.{true, false, not}
+use mathlib.Core.Bool.{true, false}
 use mathlib.Core.List.Memᴰ.{append_right as in_right}
 use mathlib.Core.List.Memᴰ.{head as here}
 use mathlib.Core.List.Memᴰ.{tail as there}
@@ -8,7 +8,6 @@ use mathlib.Core.List.{List, [], ◌∷◌, Memᴰ as Mem}
 use Prim.Native.Nat.{ℕ, zero, suc, ◌+◌, ◌-◌, ◌*◌, ◌<◌, ◌≤◌}
 use native.Mathlib.Omega.{arith}
 use native.Mathlib.Decide.{dec_lt}
-use lib.Dec.{T}
 use lib.IntN.{ℤ, pos, negsuc}
 use lib.Signed.{non_neg}
 use lib.ListN.{length, get_or}
@@ -22,7 +21,7 @@ use Rattle.tables.specs.Rings.{following_in, behind_in}
 use Rattle.tables.specs.Shows.{view}
 use Rattle.tables.specs.Undo.{word_of}
 use Rattle.tables.specs.Views.{stands_range}
-use Rattle.links.specs.Moves.{InRing, InList, IsHeader, IsNode}
+use Rattle.links.specs.Moves.{InRing, InList, IsNode}
 use Rattle.links.proofs.Words.{clash}
 use Rattle.links.proofs.Cursor.{following_is}
 use Rattle.links.proofs.Round.{end_of}
@@ -79,19 +78,6 @@ module _ {P : Problem} {held : List Entry} {n : ℕ} {t : List ℤ} {i : ℕ} {x
   list_word =
       word_of (word t (down (items P) q)) (link t (down (items P) q)) refl (member (link t (down (items P) q)) next_in).0
       ∙ ap pos (following_is (λ k. link t (down (items P) k)) (λ k. link t (up (items P) k)) (suc i) ((view P held).list i) xs q ys L.split (L.shown.shows.lists.linked i L.item))
-
--- ---- a header
-
-module _ {P : Problem} {held : List Entry} {n : ℕ} {t : List ℤ} {j i : ℕ} (H : IsHeader P held n t j i) where
-  pub header_size : length t ≡ 2 * (items P + 2) + 4 * nodes P
-  header_size = H.shown.shows.size
-
-  pub header_inside : i < nodes P
-  unfolding nodes
-  header_inside = omega (arith, H.item, H.is)
-
-  pub header_word : word t (top (items P) i) ≡ pos (length ((view P held).list j))
-  header_word = ap (λ (k : ℕ). word t (top (items P) k)) H.is ∙ H.shown.shows.counted j H.item
 
 -- ---- a node
 
@@ -154,8 +140,5 @@ module _ {P : Problem} {held : List Entry} {n : ℕ} {t : List ℤ} {c : Choice}
 
 -- the number that the spacer at a holds
 module _ (t : List ℤ) (a : ℕ) {m : ℕ} (w : word t a ≡ negsuc m) where
-  pub spacer_negative : T (not (non_neg (word t a)))
-  spacer_negative = rw w tt
-
   pub spacer_number : {r : ℕ} → Spacer t a r → r ≡ m
   spacer_number S = let v = S.word_is in cc

@@ -1,6 +1,6 @@
 -- Hiding an option and unhiding it: one node, and the walk round the option.
 use mathlib.Core.Path.{◌≡◌, refl, sym, ap, ◌∙◌, subst}
-use mathlib.Core.Logic.{◌⊎◌, inl, inr, ◌≢◌}
+use mathlib.Core.Logic.{◌⊎◌, inl, inr}
 use mathlib.Core.Bool.{Bool, true, false, not}
 use mathlib.Core.List.Memᴰ.{append_right as in_right}
 use mathlib.Core.List.Memᴰ.{head as here}
@@ -15,7 +15,7 @@ use Rattle.rules.specs.Lists.{also, keep, flat}
 use Rattle.rules.specs.Words.{word}
 use Rattle.rules.specs.Problem.{Entry, Problem, items}
 use Rattle.rules.specs.Order.{has_item, Choice}
-use Rattle.rules.specs.Links.{Event, unlink, Node, nodes_from, others, hide, cost, top, colour_at, apply, run_events}
+use Rattle.rules.specs.Links.{Event, unlink, Node, nodes_from, others, hide, cost, colour_at, apply, run_events}
 use Rattle.laws.specs.Lists.{one_true, tested, keep_length, flat_append}
 use Rattle.tables.specs.Nodes.{nodes, nodes_range, nodes_length, placed_range, others_mem}
 use Rattle.tables.specs.Rings.{without, without_length}
@@ -25,8 +25,7 @@ use Rattle.tables.specs.Met.{whole_fit}
 use Rattle.links.specs.Moves.{Done}
 use Rattle.links.specs.Steps.{SomeUnlink, SomeRelink, OneNode, unless, Short, OneHidden, CanHide, Hidden}
 use Rattle.links.proofs.Cursor.{flat_snoc}
-use Rattle.links.proofs.Round.{positive}
-use Rattle.links.proofs.Lap.{Lap, Right, right_node, right_next, Left, left_node, before, left_split, left_words}
+use Rattle.links.specs.Laps.{Lap}
 
 -- ---- one node
 
@@ -257,7 +256,8 @@ module _ {P : Problem} {W : View} {n : ℕ} {t₀ : List ℤ} {held : List Entry
       told_now : now.marked x.at ≡ has_item x.entry.item held
       told_now = hides_marked held xs W x.at ∙ told x here_in
 
-      one_node : {q : ℕ} → q ≡ x.at → {t : List ℤ} → t ≡ run_events (items P) t₀ (hides held xs) → OneNode P now n t x q
+      pub one_node : {q : ℕ} → q ≡ x.at → {t : List ℤ} → t ≡ run_events (items P) t₀ (hides held xs)
+          → OneNode P now n t x q
       unfolding flat
       one_node {q} w f = record {
         good = C.good;
@@ -274,7 +274,7 @@ module _ {P : Problem} {W : View} {n : ℕ} {t₀ : List ℤ} {held : List Entry
           go true k g = absurd k
           go false k g = g.0
 
-      one_is : {q : ℕ} → q ≡ x.at → unless (now.marked q) q ≡ hide_node held x
+      pub one_is : {q : ℕ} → q ≡ x.at → unless (now.marked q) q ≡ hide_node held x
       one_is w = rw w (ap (λ (b : Bool). unless b x.at) told_now)
 
   pub hide_lap : Lap P c n p t₀
@@ -288,25 +288,26 @@ module _ {P : Problem} {W : View} {n : ℕ} {t₀ : List ℤ} {held : List Entry
     more = λ xs x. flat_snoc (hide_node held) xs x;
     stage = λ xs zs s.
         record { sees = foldl after W (hides held xs); table = table_now xs zs s; placed_in = C.placed_in; inside = C.inside };
+    few = λ xs zs s. let r = placed_range P C.placed_in in
+        omega (arith, hides_few held xs, ap length s, length-append xs zs, others_few c, C.table.size);
   }
 
 -- ---- in the loops
 
 module _ {P : Problem} {W : View} {n : ℕ} {t₀ : List ℤ} {held : List Entry} {c : Choice} {p : ℕ} (C : CanHide P W n t₀ held c p) where
-  pub hide_few : {t : List ℤ} {q u : ℕ} → Right (hide_lap C) t q u → u < nodes P
-  unfolding hide_lap
-  hide_few K =
-      let r = placed_range P C.placed_in in
-      omega (arith, K.counts, hides_few held K.past, ap length K.split, length-append K.past K.ahead, others_few c)
+  -- a node that the walk comes to
+  module _ (xs : List Node) (y : Node) (zs : List Node) (s : others c ≡ xs ++ y ∷ zs) where
+    abbrev pub hide_view : View
+    hide_view = foldl after W (hides held xs)
 
-  module _ {t : List ℤ} {q u : ℕ} (K : Right (hide_lap C) t q u) (ne : q ≢ p) (b : positive t (top n q) ≡ true) where
-    pub hide_at : OneNode P (foldl after W (hides held K.past)) n t (right_node K ne b).0 q
+    pub hide_here : {t : List ℤ} → t ≡ run_events (items P) t₀ ((hide_lap C).done xs) → OneNode P hide_view n t y y.at
     unfolding hide_lap
-    hide_at = let (x, ys, e, w) = right_node K ne b in one_node C K.past K.ahead K.split x ys e w K.words
+    hide_here e = one_node C xs (y ∷ zs) s y zs refl refl e
 
-    pub hide_next : {t' : List ℤ} {r : ℕ} → Done (items P) t (unless ((foldl after W (hides held K.past)).marked q) q) t' r → Right (hide_lap C) t' (q + 1) (u + r)
+    pub hide_step : {t t' : List ℤ} {r : ℕ} → Done (items P) t (unless (hide_view.marked y.at) y.at) t' r
+        → Done (items P) t ((hide_lap C).step xs y) t' r
     unfolding hide_lap
-    hide_next D = let (x, ys, e, w) = right_node K ne b in right_next K ne b (rw (one_is C K.past K.ahead K.split x ys e w) at D)
+    hide_step D = rw (one_is C xs (y ∷ zs) s y zs refl refl) at D
 
   pub hide_all : {t : List ℤ} {u : ℕ} → Done (items P) t₀ ((hide_lap C).done (others c)) t u → Done (items P) t₀ (hide P held c) t u
   unfolding hide_lap
@@ -317,14 +318,16 @@ module _ {P : Problem} {W : View} {n : ℕ} {t₁ t₀ : List ℤ} {held : List 
   unfolding hide_lap
   unhide_words = H.is ∙ ap (run_events (items P) t₁) (hide_is P held c)
 
-  module _ {t : List ℤ} {q : ℕ} (K : Left (hide_lap H.can) t q) (ne : q ≢ p) (b : positive t (top n q) ≡ true) where
-    pub unhide_at : OneHidden P (foldl after W (hides held (left_node K ne b).0)) n (before K ne b) t (left_node K ne b).1 q
+  module _ (xs : List Node) (y : Node) (zs : List Node) (s : others c ≡ xs ++ y ∷ zs) where
+    abbrev pub before : List ℤ
+    before = run_events (items P) t₁ ((hide_lap H.can).done xs)
+
+    pub unhide_here : {t : List ℤ} → t ≡ run_events (items P) before ((hide_lap H.can).step xs y)
+        → OneHidden P (hide_view H.can xs y zs s) n before t y y.at
     unfolding hide_lap
-    unhide_at =
-        let (ys, x, e, w) = left_node K ne b in
-        record {
-          node = one_node H.can ys (x ∷ K.ahead) (left_split K ne b) x K.ahead refl w refl;
-          is = left_words K ne b ∙ ap (run_events (items P) (before K ne b)) (sym (one_is H.can ys (x ∷ K.ahead) (left_split K ne b) x K.ahead refl w));
-          small = H.small;
-          short = hides_short P held ys W H.short;
-        }
+    unhide_here e = record {
+      node = one_node H.can xs (y ∷ zs) s y zs refl refl refl;
+      is = e ∙ ap (run_events (items P) before) (sym (one_is H.can xs (y ∷ zs) s y zs refl refl));
+      small = H.small;
+      short = hides_short P held xs W H.short;
+    }

@@ -1,36 +1,27 @@
 -- A walk once round an option, to the right or back to the left, that does something at each of its other nodes.
-use mathlib.Core.Path.{◌≡◌, refl, sym, ap, ◌∙◌}
+use mathlib.Core.Path.{◌≡◌, refl, sym, ap, ◌∙◌, subst}
 use mathlib.Core.Logic.{◌≢◌}
 use mathlib.Core.Bool.{true, false}
 use mathlib.Core.List.{List, [], ◌∷◌, ◌++◌, map, append-nil}
-use Prim.Native.Nat.{ℕ, suc, ◌+◌, ◌-◌, ◌*◌, ◌<◌}
+use Prim.Native.Nat.{ℕ, suc, ◌+◌, ◌-◌, ◌*◌, ◌≤◌, ◌<◌}
 use native.Mathlib.Omega.{arith}
 use lib.IntN.{ℤ, pos}
 use lib.ListN.{length}
 use Rattle.rules.specs.Words.{word}
 use Rattle.rules.specs.Problem.{Problem, items}
 use Rattle.rules.specs.Order.{Choice, node}
-use Rattle.rules.specs.Links.{Event, Node, others, first_or, last_or, cost, top, up, down, apply, run_events}
+use Rattle.rules.specs.Links.{Node, others, first_or, last_or, cost, top, up, down, apply, run_events}
 use Rattle.words.specs.Read.{Link}
 use Rattle.tables.specs.Nodes.{nodes, placed_range}
 use Rattle.tables.specs.Views.{foldl_append}
 use Rattle.tables.specs.Met.{cost_append}
 use Rattle.links.specs.Moves.{Done}
+use denote.MutBor.{MutBor}
+use Rattle.links.specs.Laps.{InOption, Lap, Does, Undoes}
 use Rattle.links.specs.Steps.{HasLink}
 use Rattle.links.proofs.Words.{has_link, read}
 use Rattle.links.proofs.Cursor.{Front, Rear, split_on, split_back}
-use Rattle.links.proofs.Round.{way_right, right_less, turn_less, way_left, left_less, back_less, spot, end_of, Fore, Aft, InOption, positive, fore_start, fore_inside, fore_node, fore_spacer, fore_top, spacer_first, fore_first, fore_next, fore_end, aft_start, aft_inside, aft_node, aft_spacer, aft_top, spacer_last, aft_last, aft_next, aft_end}
-
--- What is done from the table t on, round the option of choice c, whose node is p: at the nodes xs together, and at the node y after them.
-pub record Lap (P : Problem) (c : Choice) (n p : ℕ) (t : List ℤ) : Type 0 where
-  pub n_is : n ≡ items P
-  pub is : p ≡ node c
-  pub done : List Node → List Event
-  pub step : List Node → Node → List Event
-  pub none : done [] ≡ []
-  pub more : (xs : List Node) (y : Node) → done (xs ++ (y ∷ [])) ≡ done xs ++ step xs y
-  -- the option can be seen all the while
-  pub stage : (xs zs : List Node) → others c ≡ xs ++ zs → InOption P c (run_events (items P) t (done xs))
+use Rattle.links.proofs.Round.{way_right, turn_less, way_left, left_less, back_less, spot, end_of, Fore, Aft, positive, fore_start, fore_inside, fore_node, fore_spacer, spacer_first, fore_first, fore_next, fore_end, aft_start, aft_inside, aft_node, aft_spacer, spacer_last, aft_last, aft_next, aft_end}
 
 -- ---- to the right
 
@@ -71,6 +62,9 @@ module _ {P : Problem} {c : Choice} {n p : ℕ} {t₀ : List ℤ} {L : Lap P c n
   right_inside : q < nodes P
   right_inside = fore_inside O K.past K.ahead K.split K.place
 
+  pub right_few : u ≤ length t₀ + 2147483648 * 2147483648
+  right_few = omega (arith, K.counts, L.few K.past K.ahead K.split)
+
   pub right_test : top n q < length t
   right_test = omega (arith, L.n_is, right_inside, right_size)
 
@@ -81,22 +75,22 @@ module _ {P : Problem} {c : Choice} {n p : ℕ} {t₀ : List ℤ} {L : Lap P c n
     away : q ≢ node c
     away e = ne (e ∙ sym L.is)
 
-    pub right_near : way_right (length t₀) p (q + 1) < way_right (length t₀) p q
-    right_near = right_less (length t₀) p q ne right_below
-
     -- at a node
     module _ (b : positive t (top n q) ≡ true) where
       pub right_node : Front spot K.ahead q
       right_node = fore_node O K.past K.ahead K.split K.place away (rw (← L.n_is) b)
 
-      right_top : word t (top (items P) q) ≡ pos (suc right_node.0.entry.item)
-      right_top = fore_top O K.past K.ahead K.split K.place right_node
-
-      pub right_has : HasLink t (top n q)
-      right_has = has_link t (omega (arith, L.n_is)) right_top (omega (arith, right_inside, right_size))
-
-      pub right_header : {j : ℕ} → Link t (top n q) j → j ≡ suc right_node.0.entry.item
-      right_header = read t (omega (arith, L.n_is)) right_top
+      -- what f does there
+      pub right_does : {F : Type 0} (pre : F → MutBor (List ℤ) → ℕ → ℕ → Type 0) (post : F → MutBor (List ℤ) → ℕ → ℕ
+          → ℕ → MutBor (List ℤ) → Type 0) (f : F)
+          → Does pre post f L → (m : MutBor (List ℤ)) → m.now ≡ t
+          → pre f m n q × ((r : ℕ) (m' : MutBor (List ℤ)) → post f m n q r m'
+          → Done (items P) m.now (L.step K.past right_node.0) m'.now r)
+      right_does pre post f D m e =
+          let (y, ys, z, w) = right_node in
+          subst (λ (k : ℕ). pre f m n k × ((r : ℕ) (m' : MutBor (List ℤ)) → post f m n k r m'
+          → Done (items P) m.now (L.step K.past y) m'.now r))
+          (sym w) (D K.past y ys (K.split ∙ ap (λ (l : List Node). K.past ++ l) z) m (e ∙ K.words))
 
       pub right_next : {t' : List ℤ} {r : ℕ} → Done (items P) t (L.step K.past right_node.0) t' r → Right L t' (q + 1) (u + r)
       right_next D =
@@ -190,15 +184,6 @@ module _ {P : Problem} {c : Choice} {n p : ℕ} {t₁ : List ℤ} {L : Lap P c n
       pub left_node : Rear spot K.past q
       left_node = aft_node seen K.past K.ahead K.split K.place apart (rw (← L.n_is) b)
 
-      left_top : word t (top (items P) q) ≡ pos (suc left_node.1.entry.item)
-      left_top = aft_top seen K.past K.ahead K.split K.place left_node
-
-      pub left_has : HasLink t (top n q)
-      left_has = has_link t (omega (arith, L.n_is)) left_top (omega (arith, left_inside, left_size))
-
-      pub left_header : {j : ℕ} → Link t (top n q) j → j ≡ suc left_node.1.entry.item
-      left_header = read t (omega (arith, L.n_is)) left_top
-
       -- the table before it was done
       abbrev pub before : List ℤ
       before = run_events (items P) t₁ (L.done left_node.0)
@@ -210,6 +195,17 @@ module _ {P : Problem} {c : Choice} {n p : ℕ} {t₁ : List ℤ} {L : Lap P c n
       left_words =
           K.words ∙ ap (λ (l : List Node). run_events (items P) t₁ (L.done l)) left_node.2 ∙ ap (run_events (items P) t₁) (L.more left_node.0 left_node.1)
           ∙ foldl_append (apply (items P)) t₁ (L.done left_node.0) (L.step left_node.0 left_node.1)
+
+      -- what f undoes there
+      pub left_does : {F : Type 0} (pre : F → MutBor (List ℤ) → ℕ → ℕ → Type 0)
+          (post : F → MutBor (List ℤ) → ℕ → ℕ → Unit {0} → MutBor (List ℤ) → Type 0) (f : F)
+          → Undoes pre post f L → (m : MutBor (List ℤ)) → m.now ≡ t
+          → pre f m n q × ((m' : MutBor (List ℤ)) → post f m n q tt m' → m'.now ≡ before)
+      left_does pre post f D m e =
+          let (ys, y, z, w) = left_node in
+          subst (λ (k : ℕ). pre f m n k × ((m' : MutBor (List ℤ)) → post f m n k tt m'
+          → m'.now ≡ run_events (items P) t₁ (L.done ys)))
+          (sym w) (D ys y K.ahead left_split m (e ∙ left_words))
 
       pub left_more : 0 < q
       left_more = (aft_next seen K.past K.ahead K.split K.place left_node).0

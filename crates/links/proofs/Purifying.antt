@@ -1,8 +1,9 @@
 -- A node of an item that is purified: it has the colour and is marked, or it is hidden. And back.
 use mathlib.Core.Path.{◌≡◌, refl, sym, ap, ◌∙◌, subst}
+use mathlib.Core.Logic.{◌≢◌}
 use mathlib.Core.Bool.{Bool, true, false, not, ◌&&◌}
 use mathlib.Core.List.{List}
-use Prim.Native.Nat.{ℕ, ◌<◌}
+use Prim.Native.Nat.{ℕ, suc, ◌<◌}
 use native.Mathlib.Omega.{arith}
 use borrow.Author.Tests.{eq-eqb, ne_eqb}
 use lib.Dec.{T, eqb, eqb→eq}
@@ -13,12 +14,16 @@ use lib.Seq.{set-set, set-get_or}
 use Rattle.rules.specs.Words.{word, same}
 use Rattle.rules.specs.Problem.{Entry, Problem, items}
 use Rattle.rules.specs.Order.{one_colour, Choice}
-use Rattle.rules.specs.Links.{own, hide, met, cost, colour_at, apply, run_events}
+use Rattle.rules.specs.Links.{own, met, cost, top, colour_at, apply, run_events}
 use Rattle.tables.specs.Nodes.{placed_range}
 use Rattle.tables.specs.Views.{View, shade}
 use Rattle.links.specs.Moves.{Done}
-use Rattle.links.specs.Steps.{Hidden, CanMeet, Meeting, Parting}
-use Rattle.links.proofs.Untouching.{met_hidden}
+use Rattle.words.specs.Read.{Link}
+use Rattle.tables.specs.Met.{walked}
+use Rattle.links.specs.Steps.{CanMeet, Meeting, Parting, CanPurify, Purified}
+use Rattle.links.proofs.Words.{read_colour, read_header}
+use Rattle.links.proofs.Touching.{Touching, met_now, touching_node}
+use Rattle.links.proofs.Untouching.{met_hidden, Untouching, met_last, fore, untouching_node}
 use Rattle.links.proofs.Lap.{left_start, left_size}
 use Rattle.links.proofs.Hiding.{hide_lap, unhide_words}
 
@@ -50,9 +55,6 @@ module _ {P : Problem} {W : View} {n : ℕ} {t : List ℤ} {held : List Entry} {
     counts = refl;
   })
 
-  pub hides : one_colour e (own d) ≡ false → {t' : List ℤ} {r : ℕ} → Done (items P) t (hide P held d) t' r → Done (items P) t (met P (one_colour e (own d)) held d) t' r
-  hides b D = rw b D
-
 module _ {P : Problem} {W : View} {n : ℕ} {t₁ t : List ℤ} {held : List Entry} {e : Entry} {d : Choice} {q colour : ℕ} (M : Parting P W n t₁ t held e d q colour) where
   now_marked : one_colour e (own d) ≡ true → t ≡ set t₁ (colour_at (items P) q) (negsuc 0)
   unfolding apply
@@ -73,9 +75,6 @@ module _ {P : Problem} {W : View} {n : ℕ} {t₁ t : List ℤ} {held : List Ent
       long true b = ap length (now_marked b) ∙ length-set t₁ (colour_at (items P) q) (negsuc 0)
       long false b = let H = met_hidden M.met b in left_size (left_start (hide_lap H.can) (unhide_words H)) ∙ sym M.met.can.can.table.size
 
-  pub parting_hidden : one_colour e (own d) ≡ false → Hidden P W n t₁ t held d q
-  parting_hidden b = met_hidden M.met b
-
   -- the colour is put back
   pub unmarks : one_colour e (own d) ≡ true → {t' : List ℤ} → t' ≡ set t (colour_at n q) (pos colour) → t' ≡ t₁
   unmarks b f =
@@ -90,3 +89,34 @@ module _ {P : Problem} {W : View} {n : ℕ} {t₁ t : List ℤ} {held : List Ent
 
       one : (a b : Entry) → one_colour a b ≡ true → a.colour ≡ b.colour
       one a b u = eqb→eq a.colour b.colour (rw (first (eqb a.colour b.colour) (not (eqb a.colour 0)) u) tt)
+
+-- ---- the node that the walk has come to
+
+module _ {P : Problem} {held : List Entry} {n : ℕ} {t₀ : List ℤ} {e : Entry} {p : ℕ} (C : CanPurify P held n t₀ e p)
+    {i : ℕ} (h : Link t₀ (top n p) i) where
+  pub its_header : i ≡ suc e.item
+  its_header = read_header C.touch.n_is C.says h
+
+  pub purify_meets : {colour : ℕ} → Link t₀ (colour_at n p) colour
+      → {t : List ℤ} {q u : ℕ} (K : Touching P held e t₀ t q u) (ne : q ≢ i)
+      → Meeting P (walked P held e K.past) n t held e (met_now C.touch K its_header ne).0 q colour
+  purify_meets k K ne = record {
+    can = touching_node C.touch K its_header ne;
+    colour_is = read_colour C.touch.n_is C.says k;
+    coloured = C.coloured;
+  }
+
+module _ {P : Problem} {held : List Entry} {n : ℕ} {t₁ t₂ : List ℤ} {e : Entry} {p : ℕ}
+    (Q : Purified P held n t₁ t₂ e p)
+    {i : ℕ} (h : Link t₂ (top n p) i) where
+  pub header_still : i ≡ suc e.item
+  header_still = read_header Q.can.n_is Q.says h
+
+  pub unpurify_parts : {colour : ℕ} → Link t₂ (colour_at n p) colour
+      → {t : List ℤ} {q : ℕ} (K : Untouching P held e t₁ t q) (ne : q ≢ i)
+      → Parting P (walked P held e (met_last Q.can K header_still ne).0) n (fore Q.can K header_still ne) t held e
+      (met_last Q.can K header_still ne).1 q colour
+  unpurify_parts k K ne = record {
+    met = untouching_node Q.can K header_still ne;
+    colour_is = read_colour Q.can.n_is Q.says k;
+  }

@@ -17,10 +17,10 @@ use lib.Signed.{lt_z}
 use lib.ListN.{length, take, drop}
 use Rattle.rules.specs.Words.{word, nat}
 use Rattle.rules.specs.Problem.{Entry, Problem, items}
-use Rattle.rules.specs.Order.{Placed, placed, Choice, node}
+use Rattle.rules.specs.Order.{Placed, Choice, node}
 use Rattle.rules.specs.Links.{Node, nodes_from, others, first_or, last_or, top, up, down}
 use Rattle.tables.specs.Nodes.{nodes, nodes_range, placed_range, others_mem, others_other}
-use Rattle.tables.specs.Views.{View, Table}
+use Rattle.links.specs.Laps.{InOption}
 use Rattle.tables.specs.Met.{drop_nodes, take_nodes}
 use Rattle.links.proofs.Words.{clash}
 use Rattle.links.proofs.Cursor.{Front, Rear, front, rear, no_front, no_rear, first_all, last_all, last_snoc, split_on, split_back}
@@ -101,13 +101,6 @@ next_to c h xs zs s =
 
 -- ---- what stands at the place reached
 
--- the option of choice c, in a table that some view tells
-pub record InOption (P : Problem) (c : Choice) (t : List ℤ) : Type 0 where
-  pub sees : View
-  pub table : Table P sees t
-  pub placed_in : Mem c.option (placed P)
-  pub inside : c.at < length c.option.entries
-
 abbrev pub positive : List ℤ → ℕ → Bool
 positive t a = lt_z (pos 0) (word t a)
 
@@ -166,9 +159,6 @@ module _ {P : Problem} {c : Choice} {t : List ℤ} (O : InOption P c t) where
             is_node : Front spot ahead q → positive t (top (items P) q) ≡ true
             is_node (x, ys, e, w) = ap (λ (k : ℕ). positive t (top (items P) k)) w ∙ node_positive {x = x} (of_ahead (rw e (here refl)))
 
-      pub fore_top : (f : Front spot ahead q) → word t (top (items P) q) ≡ pos (suc f.0.entry.item)
-      fore_top (x, ys, e, w) = ap (λ (k : ℕ). word t (top (items P) k)) w ∙ node_top {x = x} (of_ahead (rw e (here refl)))
-
       -- the spacer names the first node
       module _ (s : (q ≡ end_of o) × (first_or (node c) (map spot ahead) ≡ o.first)) where
         pub spacer_first : word t (up (items P) q) ≡ pos o.first
@@ -225,9 +215,6 @@ module _ {P : Problem} {c : Choice} {t : List ℤ} (O : InOption P c t) where
             is_node : Rear spot past q → positive t (top (items P) q) ≡ true
             is_node (ys, x, e, w) = ap (λ (k : ℕ). positive t (top (items P) k)) w ∙ node_positive {x = x} (of_past (rw e (in_right ys (here refl))))
 
-      pub aft_top : (f : Rear spot past q) → word t (top (items P) q) ≡ pos (suc f.1.entry.item)
-      aft_top (ys, x, e, w) = ap (λ (k : ℕ). word t (top (items P) k)) w ∙ node_top {x = x} (of_past (rw e (in_right ys (here refl))))
-
       -- the spacer names the last node
       module _ (s : (suc q ≡ o.first) × (suc (last_or (node c) (map spot past)) ≡ end_of o)) where
         pub spacer_last : word t (down (items P) q) ≡ pos (q + length o.entries)
@@ -248,13 +235,6 @@ module _ {P : Problem} {c : Choice} {t : List ℤ} (O : InOption P c t) where
 
 abbrev pub way_right : ℕ → ℕ → ℕ → ℕ
 way_right l p q = cond (ltb p q) (l + p + 1 - q) (p - q)
-
-pub right_less : (l p q : ℕ) → q ≢ p → q < l → way_right l p (q + 1) < way_right l p q
-right_less l p q ne h = go (dec_lt p q)
-  where
-    go : Dec (p < q) → way_right l p (q + 1) < way_right l p q
-    go (yes k) = rw (lt-ltb p q k, lt-ltb p (q + 1) (omega arith)) (omega arith)
-    go (no k) = rw (le-ltb p q (omega arith), le-ltb p (q + 1) (omega arith)) (omega arith)
 
 pub turn_less : (l p q q' : ℕ) → p < q → q' ≤ p → q < l → way_right l p q' < way_right l p q
 turn_less l p q q' h k b = rw (lt-ltb p q h, le-ltb p q' k) (omega arith)

@@ -6,7 +6,7 @@ use mathlib.Core.List.Memᴰ.{append_left as in_left}
 use mathlib.Core.List.Memᴰ.{append_right as in_right}
 use mathlib.Core.List.Memᴰ.{head as here}
 use mathlib.Core.List.{List, [], ◌∷◌, ◌++◌, map, append-nil, Memᴰ as Mem}
-use Prim.Native.Nat.{ℕ, zero, suc, ◌+◌, ◌-◌, ◌<◌}
+use Prim.Native.Nat.{ℕ, zero, suc, ◌+◌, ◌<◌}
 use native.Mathlib.Omega.{arith}
 use lib.IntN.{ℤ, pos}
 use lib.ListN.{length, length-map}
@@ -14,7 +14,7 @@ use Rattle.rules.specs.Lists.{flat}
 use Rattle.rules.specs.Words.{word}
 use Rattle.rules.specs.Problem.{Entry, Problem, items}
 use Rattle.rules.specs.Order.{one_colour, Choice, node}
-use Rattle.rules.specs.Links.{Event, own, linked, met, ring_part, touch, first_or, last_or, cost, top, up, down, run_events}
+use Rattle.rules.specs.Links.{Event, own, linked, met, ring_part, touch, first_or, last_or, cost, up, down, run_events}
 use Rattle.laws.specs.Lists.{keep_length, among}
 use Rattle.laws.specs.Faults.{Good}
 use Rattle.tables.specs.Nodes.{Of, linked_of, nodes, placed_range}
@@ -23,8 +23,9 @@ use Rattle.tables.specs.Touch.{unlinks}
 use Rattle.tables.specs.Undo.{word_of}
 use Rattle.tables.specs.Views.{Table}
 use Rattle.tables.specs.Shows.{view, since, fold_list}
-use Rattle.tables.specs.Met.{met_all, walked, own_list, met_table, met_cursor, met_whole, met_colour}
+use Rattle.tables.specs.Met.{met_all, walked, met_table, met_cursor, met_whole, met_colour}
 use Rattle.links.specs.Moves.{Done}
+use Rattle.links.specs.Rising.{linked_rise, way_down, down_less}
 use Rattle.links.specs.Steps.{HasLink, Short, CanTouch, CanMeet}
 use Rattle.links.proofs.Words.{has_link, read}
 use Rattle.links.proofs.Cursor.{Front, front, no_front, first_all, last_all, last_snoc, split_on, run_snoc, cost_snoc}
@@ -96,12 +97,6 @@ module _ {P : Problem} {held : List Entry} {n : ℕ} {t₀ : List ℤ} {e : Entr
           word_of (word t (up (items P) (first_or head (map node zs)))) (last_or head (map node xs))
           (rw words (met_cursor P G held e C.item C.free xs zs split t₀ C.shown.shows).1) last_fair.0
 
-      -- the header still says how long the list is
-      pub length_word : word t (top (items P) head) ≡ pos (length (linked P held e.item))
-      length_word =
-          table_now.counted e.item C.item
-          ∙ ap pos (ap length (own_list P G held e C.item C.free xs zs split) ∙ length-map (linked P held e.item) node)
-
       pub can_meet : (c : Choice) (ys : List Choice) → zs ≡ c ∷ ys → {q : ℕ} → q ≡ node c → CanMeet P (walked P held e xs) n t held c q
       can_meet c ys z {q} w =
           let s = rw z at split in
@@ -130,16 +125,16 @@ touch_coloured P held e s = go e.colour s
 
 -- ---- down the list
 
-pub record Touching (P : Problem) (held : List Entry) (e : Entry) (t₀ t : List ℤ) (left p u : ℕ) : Type 0 where
+pub record Touching (P : Problem) (held : List Entry) (e : Entry) (t₀ t : List ℤ) (p u : ℕ) : Type 0 where
   pub past : List Choice
   pub ahead : List Choice
   pub split : linked P held e.item ≡ past ++ ahead
   pub words : t ≡ run_events (items P) t₀ (met_all P held e past)
   pub counts : u ≡ cost (met_all P held e past)
-  pub left_is : left ≡ length ahead
   pub place : p ≡ first_or (suc e.item) (map node ahead)
 
-pub touching_few : {P : Problem} {held : List Entry} {e : Entry} {t₀ t : List ℤ} {l p u : ℕ} → Touching P held e t₀ t l p u → u < nodes P
+pub touching_few : {P : Problem} {held : List Entry} {e : Entry} {t₀ t : List ℤ} {p u : ℕ}
+    → Touching P held e t₀ t p u → u < nodes P
 touching_few {P} {held} {e} K =
     omega (arith, K.counts, met_all_few P held e K.past, spans_part K.past K.ahead, ap spans K.split, linked_few P held e.item)
 
@@ -147,38 +142,27 @@ module _ {P : Problem} {held : List Entry} {n : ℕ} {t₀ : List ℤ} {e : Entr
   abbrev pub chain : List Choice
   chain = linked P held e.item
 
-  start_length : word t₀ (top (items P) (suc e.item)) ≡ pos (length chain)
-  unfolding flat
-  start_length = length_word C [] chain refl refl
-
   start_first : word t₀ (down (items P) (suc e.item)) ≡ pos (first_or (suc e.item) (map node chain))
   unfolding flat last_or
   start_first = next_word C [] chain refl refl
 
   -- the header's words are read
   module _ {i : ℕ} (is : i ≡ suc e.item) where
-    pub has_length : HasLink t₀ (top n i)
-    has_length = has_link t₀ (omega (arith, C.n_is)) start_length (omega (arith, (head_fair C).1, C.shown.shows.size))
-
     pub has_first : HasLink t₀ (down n i)
     has_first = has_link t₀ (omega (arith, C.n_is)) start_first (omega (arith, (head_fair C).1, C.shown.shows.size))
 
-    pub touching_start : {l p : ℕ} → Link t₀ (top n i) l → Link t₀ (down n i) p → Touching P held e t₀ t₀ l p 0
+    pub touching_start : {p : ℕ} → Link t₀ (down n i) p → Touching P held e t₀ t₀ p 0
     unfolding flat cost
-    touching_start L F = record {
+    touching_start F = record {
       past = [];
       ahead = chain;
       split = refl;
       words = refl;
       counts = refl;
-      left_is = read t₀ (omega (arith, C.n_is)) start_length L;
       place = read t₀ (omega (arith, C.n_is)) start_first F;
     }
 
-  module _ {t : List ℤ} {l p u : ℕ} (K : Touching P held e t₀ t l p u) where
-    pub touching_long : length t ≡ length t₀
-    touching_long = (table_now C K.past K.ahead K.split K.words).size ∙ sym C.shown.shows.size
-
+  module _ {t : List ℤ} {p u : ℕ} (K : Touching P held e t₀ t p u) where
     touching_inside : p < nodes P
     touching_inside = omega (arith, K.place, (first_fair C K.past K.ahead K.split).1)
 
@@ -187,9 +171,6 @@ module _ {P : Problem} {held : List Entry} {n : ℕ} {t₀ : List ℤ} {e : Entr
     module _ {i : ℕ} (is : i ≡ suc e.item) (ne : p ≢ i) where
       pub met_now : Front node K.ahead p
       met_now = front node (suc e.item) K.ahead K.place (λ z. ne (z ∙ sym is))
-
-      pub touching_some : 0 < l
-      touching_some = omega (arith, K.left_is, ap length met_now.2)
 
       pub touching_node : CanMeet P (walked P held e K.past) n t held met_now.0 p
       touching_node = can_meet C K.past K.ahead K.split K.words met_now.0 met_now.1 met_now.2 met_now.3
@@ -213,18 +194,27 @@ module _ {P : Problem} {held : List Entry} {n : ℕ} {t₀ : List ℤ} {e : Entr
             has_link t' (omega (arith, C.n_is)) next_down
             (omega (arith, touching_inside, (table_now C (K.past ++ (met_now.0 ∷ [])) met_now.1 split' words').size))
 
-        onward : {p' : ℕ} → p' ≡ first_or (suc e.item) (map node met_now.1) → Touching P held e t₀ t' (l - 1) p' (u + r)
+        onward : {p' : ℕ} → p' ≡ first_or (suc e.item) (map node met_now.1) → Touching P held e t₀ t' p' (u + r)
         onward ep = record {
           past = K.past ++ (met_now.0 ∷ []);
           ahead = met_now.1;
           split = split';
           words = words';
           counts = omega (arith, K.counts, D.counts, cost_snoc (meet P held e) K.past met_now.0);
-          left_is = omega (arith, K.left_is, ap length met_now.2);
           place = ep;
         }
 
-        pub touching_next : {p' : ℕ} → Link t' (down n p) p' → Touching P held e t₀ t' (l - 1) p' (u + r)
+        -- a node nearer to the header
+        pub touching_near : {p' : ℕ} → Link t' (down n p) p' → way_down (length t₀) i p' < way_down (length t₀) i p
+        touching_near L =
+            let s : chain ≡ K.past ++ (met_now.0 ∷ met_now.1) = K.split
+            ∙ ap (λ (l : List Choice). K.past ++ l) met_now.2 in
+            let e' = read t' (omega (arith, C.n_is)) next_down L
+            ∙ ap (λ (h : ℕ). first_or h (map node met_now.1)) (sym is) in
+            down_less K.past met_now.0 met_now.1 (rw s at (linked_rise P held e.item)) met_now.3 e' ne
+            (omega (arith, touching_inside, C.shown.shows.size))
+
+        pub touching_next : {p' : ℕ} → Link t' (down n p) p' → Touching P held e t₀ t' p' (u + r)
         touching_next L = onward (read t' (omega (arith, C.n_is)) next_down L)
 
         pub sum_few : u + r < nodes P

@@ -6,25 +6,26 @@ use mathlib.Core.List.Memᴰ.{append_left as in_left}
 use mathlib.Core.List.Memᴰ.{append_right as in_right}
 use mathlib.Core.List.Memᴰ.{head as here}
 use mathlib.Core.List.{List, [], ◌∷◌, ◌++◌, map, foldl, append-nil}
-use Prim.Native.Nat.{ℕ, suc, ◌+◌, ◌-◌, ◌*◌, ◌<◌}
+use Prim.Native.Nat.{ℕ, suc, ◌+◌, ◌*◌, ◌<◌}
 use native.Mathlib.Omega.{arith}
 use lib.IntN.{ℤ, pos}
-use lib.ListN.{length, length-append}
+use lib.ListN.{length}
 use Rattle.rules.specs.Lists.{flat}
 use Rattle.rules.specs.Words.{word}
 use Rattle.rules.specs.Problem.{Entry, Problem, items}
 use Rattle.rules.specs.Order.{one_colour, Choice, node}
-use Rattle.rules.specs.Links.{own, linked, met, last_or, top, up, colour_at, run_events}
+use Rattle.rules.specs.Links.{own, linked, met, last_or, up, colour_at, run_events}
 use Rattle.words.specs.Read.{Link}
-use Rattle.tables.specs.Nodes.{nodes, linked_of}
+use Rattle.tables.specs.Nodes.{nodes, linked_of, placed_range}
 use Rattle.tables.specs.Shows.{view}
 use Rattle.tables.specs.Views.{View, after, shade, foldl_append}
 use Rattle.tables.specs.Met.{met_all, walked, own_marked}
+use Rattle.links.specs.Rising.{linked_rise, rise_before}
 use Rattle.links.specs.Steps.{HasLink, Hidden, CanTouch, Met}
 use Rattle.links.proofs.Words.{has_link, read}
-use Rattle.links.proofs.Cursor.{Rear, rear, no_rear, split_back, run_snoc, flat_snoc}
+use Rattle.links.proofs.Cursor.{Rear, rear, no_rear, last_all, split_back, run_snoc, flat_snoc}
 use Rattle.links.proofs.Found.{node_in}
-use Rattle.links.proofs.Touching.{head_fair, meet, chain, table_now, other, short_now, last_fair, previous_word, length_word, can_meet}
+use Rattle.links.proofs.Touching.{head_fair, meet, chain, table_now, other, short_now, last_fair, previous_word, can_meet}
 
 -- a node that was hidden when it was met
 pub met_hidden : {P : Problem} {W : View} {n : ℕ} {t₁ t : List ℤ} {held : List Entry} {e : Entry} {d : Choice} {q : ℕ} → Met P W n t₁ t held e d q
@@ -36,12 +37,11 @@ met_hidden {P} {t₁ = t₁} {held = held} {d = d} M b = record {
   short = M.short;
 }
 
-pub record Untouching (P : Problem) (held : List Entry) (e : Entry) (t₁ t : List ℤ) (left p : ℕ) : Type 0 where
+pub record Untouching (P : Problem) (held : List Entry) (e : Entry) (t₁ t : List ℤ) (p : ℕ) : Type 0 where
   pub past : List Choice
   pub ahead : List Choice
   pub split : linked P held e.item ≡ past ++ ahead
   pub words : t ≡ run_events (items P) t₁ (met_all P held e past)
-  pub left_is : left ≡ length past
   pub place : p ≡ last_or (suc e.item) (map node past)
 
 module _ {P : Problem} {held : List Entry} {n : ℕ} {t₁ : List ℤ} {e : Entry} (C : CanTouch P held n t₁ e) where
@@ -53,34 +53,24 @@ module _ {P : Problem} {held : List Entry} {n : ℕ} {t₁ : List ℤ} {e : Entr
     pub end_size : length t ≡ 2 * (items P + 2) + 4 * nodes P
     end_size = (table_now C (chain C) [] whole words).size
 
-    end_length : word t (top (items P) (suc e.item)) ≡ pos (length (chain C))
-    end_length = length_word C (chain C) [] whole words
-
     end_last : word t (up (items P) (suc e.item)) ≡ pos (last_or (suc e.item) (map node (chain C)))
     end_last = previous_word C (chain C) [] whole words
 
     -- the header's words are read
     module _ {i : ℕ} (is : i ≡ suc e.item) where
-      pub still_length : HasLink t (top n i)
-      still_length = has_link t (omega (arith, C.n_is)) end_length (omega (arith, (head_fair C).1, end_size))
-
       pub has_last : HasLink t (up n i)
       has_last = has_link t (omega (arith, C.n_is)) end_last (omega (arith, (head_fair C).1, end_size))
 
-      pub untouching_start : {l p : ℕ} → Link t (top n i) l → Link t (up n i) p → Untouching P held e t₁ t l p
-      untouching_start L F = record {
+      pub untouching_start : {p : ℕ} → Link t (up n i) p → Untouching P held e t₁ t p
+      untouching_start F = record {
         past = chain C;
         ahead = [];
         split = whole;
         words = words;
-        left_is = read t (omega (arith, C.n_is)) end_length L;
         place = read t (omega (arith, C.n_is)) end_last F;
       }
 
-  module _ {t : List ℤ} {l p : ℕ} (K : Untouching P held e t₁ t l p) where
-    pub untouching_size : length t ≡ 2 * (items P + 2) + 4 * nodes P
-    untouching_size = (table_now C K.past K.ahead K.split K.words).size
-
+  module _ {t : List ℤ} {p : ℕ} (K : Untouching P held e t₁ t p) where
     untouching_inside : p < nodes P
     untouching_inside = omega (arith, K.place, (last_fair C K.past K.ahead K.split).1)
 
@@ -103,9 +93,6 @@ module _ {P : Problem} {held : List Entry} {n : ℕ} {t₁ : List ℤ} {e : Entr
       -- the table before this node was met
       abbrev pub fore : List ℤ
       fore = run_events (items P) t₁ (met_all P held e met_last.0)
-
-      pub untouching_some : 0 < l
-      untouching_some = omega (arith, K.left_is, ap length met_last.2, length-append ys (c ∷ []))
 
       split' : linked P held e.item ≡ ys ++ (c ∷ K.ahead)
       split' = split_back ys c K.ahead K.split met_last.2
@@ -143,12 +130,24 @@ module _ {P : Problem} {held : List Entry} {n : ℕ} {t₁ : List ℤ} {e : Entr
         pub has_previous : HasLink t' (up n p)
         has_previous = has_link t' (omega (arith, C.n_is)) next_up (omega (arith, untouching_inside, (table_now C ys (c ∷ K.ahead) split' w).size))
 
-        pub untouching_next : {p' : ℕ} → Link t' (up n p) p' → Untouching P held e t₁ t' (l - 1) p'
+        -- a node nearer to the header
+        pub untouching_near : {p' : ℕ} → Link t' (up n p) p' → p' < p
+        untouching_near L =
+            let a = rw split' at (linked_rise P held e.item) in
+            let F = linked_of P held e.item {c = c} (rw split' (in_right ys (here refl))) in
+            let r = placed_range P F.placed_in in
+            let k = last_all node (λ k. k < node c) (suc e.item) ys (omega (
+              arith,
+              C.item,
+              r.0,
+            )) (rise_before ys c K.ahead a) in
+            omega (arith, read t' (omega (arith, C.n_is)) next_up L, met_last.3, k)
+
+        pub untouching_next : {p' : ℕ} → Link t' (up n p) p' → Untouching P held e t₁ t' p'
         untouching_next L = record {
           past = ys;
           ahead = c ∷ K.ahead;
           split = split';
           words = w;
-          left_is = omega (arith, K.left_is, ap length met_last.2, length-append ys (c ∷ []));
           place = read t' (omega (arith, C.n_is)) next_up L;
         }

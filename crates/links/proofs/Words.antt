@@ -2,18 +2,18 @@
 use mathlib.Core.Path.{◌≡◌, sym, ap, ◌∙◌, subst}
 use mathlib.Core.Bool.{Bool, true, false}
 use mathlib.Core.List.{List}
-use Prim.Native.Nat.{ℕ, suc, ◌+◌, ◌*◌, ◌<◌}
+use Prim.Native.Nat.{ℕ, suc, ◌<◌}
 use native.Mathlib.Omega.{arith}
 use lib.IntN.{ℤ, pos}
 use lib.ListN.{length, set}
 use Rattle.rules.specs.Words.{word, nat}
 use Rattle.rules.specs.Problem.{Entry, Problem, items}
 use Rattle.rules.specs.Links.{link, top, up, down, colour_at, left, right, Event, unlink, remove, join, fall, apply}
-use Rattle.words.specs.Read.{Link, Above, CanRise}
+use Rattle.words.specs.Read.{Link, CanRise}
 use Rattle.tables.specs.Nodes.{nodes}
 use Rattle.tables.specs.Undo.{undo, rise, relink, join_length, join_else}
 use Rattle.links.specs.Moves.{Done}
-use Rattle.links.specs.Steps.{HasLink, Stands, Between, CanRelink, Ringed, Says}
+use Rattle.links.specs.Steps.{HasLink, Stands, Between, Ringed, Says}
 
 -- ---- reading the word at a, which is the place b
 
@@ -33,12 +33,6 @@ clash e f = let z : ◌≡◌ {A = ℕ} 0 1 = cc in omega arith
 -- ---- a node's neighbours are joined, to each other or to the node, and then the length of its list changes
 
 module _ {P : Problem} {n : ℕ} {t : List ℤ} {i q u d : ℕ} (B : Between P n t i q u d) where
-  pub has_stand : HasLink t (top n q) × HasLink t (up n q) × HasLink t (down n q)
-  has_stand =
-      let e : top n q ≡ top (items P) q = omega (arith, B.n_is) in
-      let h : top (items P) q + 3 < length t = omega (arith, B.inside, B.size) in
-      (has_link t e B.top_is (omega arith), has_link t (omega arith) B.up_is (omega arith), has_link t (omega arith) B.down_is (omega arith))
-
   module _ {x' u' d' : ℕ} (S : Stands n t q x' u' d') where
     x_is : x' ≡ suc i
     x_is = read t (omega (arith, B.n_is)) B.top_is S.top_is
@@ -48,12 +42,6 @@ module _ {P : Problem} {n : ℕ} {t : List ℤ} {i q u d : ℕ} (B : Between P n
 
     d_is : d' ≡ d
     d_is = read t (omega (arith, B.n_is)) B.down_is S.down_is
-
-    pub down_inside : down n u' < length t
-    down_inside = omega (arith, u_is, B.n_is, B.up_in, B.size)
-
-    pub up_inside : up n d' < length t
-    up_inside = omega (arith, d_is, B.n_is, B.down_in, B.size)
 
     module _ (y z : ℕ) {t₁ t₂ : List ℤ} (f : t₁ ≡ set t (down n u') (pos y)) (g : t₂ ≡ set t₁ (up n d') (pos z)) where
       joined : t₂ ≡ join t (down (items P) u) (pos y) (up (items P) d) (pos z)
@@ -68,9 +56,6 @@ module _ {P : Problem} {n : ℕ} {t : List ℤ} {i q u d : ℕ} (B : Between P n
           word_at t₂ (omega (arith, x_is, B.n_is))
           (ap (λ (l : List ℤ). word l (top (items P) (suc i))) joined
           ∙ join_else t (down (items P) u) (up (items P) d) (pos y) (pos z) (top (items P) (suc i)) (omega arith) (omega arith) ∙ w)
-
-      pub can_lower : {k : ℕ} → word t (top (items P) (suc i)) ≡ pos (suc k) → (top n x' < length t₂) × Above t₂ (top n x')
-      can_lower {k} w = (count_inside, (k, count_kept w))
 
       pub can_raise : {k : ℕ} → word t (top (items P) (suc i)) ≡ pos k → k < 2147483647 → (top n x' < length t₂) × CanRise t₂ (top n x')
       can_raise {k} w h =
@@ -87,9 +72,6 @@ module _ {P : Problem} {n : ℕ} {t : List ℤ} {i q u d : ℕ} (B : Between P n
       unfolding undo relink
       relink_done f g e = rw (e, g, f, S.top_is.is, S.up_is.is, S.down_is.is)
 
-pub node_small : {P : Problem} {n : ℕ} {t : List ℤ} {i q u d : ℕ} → CanRelink P n t i q u d → q < 2147483648
-node_small R = omega (arith, R.between.inside, R.small)
-
 -- ---- an item's neighbours are joined, to each other or to the item
 
 module _ {P : Problem} {t : List ℤ} {j i l r : ℕ} (R : Ringed P t j i l r) where
@@ -97,19 +79,7 @@ module _ {P : Problem} {t : List ℤ} {j i l r : ℕ} (R : Ringed P t j i l r) w
   unfolding nodes
   item_small = omega (arith, R.is, R.item, R.small)
 
-  pub has_left : HasLink t (left i)
-  has_left = has_link t (omega (arith, R.is)) R.left_is (omega (arith, R.item, R.size))
-
-  pub has_right : HasLink t (right i)
-  has_right = has_link t (omega (arith, R.is)) R.right_is (omega (arith, R.item, R.size))
-
   module _ {l' r' : ℕ} (L : Link t (left i) l') (Q : Link t (right i) r') where
-    pub right_inside : right l' < length t
-    right_inside = omega (arith, read t (omega (arith, R.is)) R.left_is L, R.left_in, R.size)
-
-    pub left_inside : left r' < length t
-    left_inside = omega (arith, read t (omega (arith, R.is)) R.right_is Q, R.right_in, R.size)
-
     -- whatever the caller calls the item
     module _ (n k : ℕ) (e : i ≡ suc k) {t₁ t₂ : List ℤ} where
       pub remove_done : t₁ ≡ set t (right l') (pos r') → t₂ ≡ set t₁ (left r') (pos l') → t₂ ≡ apply n t (remove k)
@@ -123,9 +93,6 @@ module _ {P : Problem} {t : List ℤ} {j i l r : ℕ} (R : Ringed P t j i l r) w
 -- ---- a node's entry is read
 
 module _ {P : Problem} {n : ℕ} {t : List ℤ} {e : Entry} {p : ℕ} (n_is : n ≡ items P) (Y : Says P t e p) where
-  pub has_entry : length t ≡ 2 * (items P + 2) + 4 * nodes P → HasLink t (colour_at n p) × HasLink t (top n p)
-  has_entry z = (has_link t (omega arith) Y.colour_is (omega (arith, Y.inside)), has_link t (omega arith) Y.top_is (omega (arith, Y.inside)))
-
   pub read_colour : {c : ℕ} → Link t (colour_at n p) c → c ≡ e.colour
   read_colour = read t (omega arith) Y.colour_is
 

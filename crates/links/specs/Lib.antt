@@ -1,2 +1,4 @@
 pub mod Moves
 pub mod Steps
+pub mod Rising
+pub mod Laps

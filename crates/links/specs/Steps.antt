@@ -198,25 +198,25 @@ pub record Purified (P : Problem) (held : List Entry) (n : ℕ) (t₁ t : List �
 abbrev pub SomePurified : ℕ → List ℤ → ℕ → Type 0
 SomePurified n t p = (P : Problem) × (held : List Entry) × (t₁ : List ℤ) × (e : Entry) × Purified P held n t₁ t e p
 
--- p is the node x, and j the header of its item, in a table where it is marked just if its item is held
-pub record CanCommitNode (P : Problem) (held : List Entry) (n : ℕ) (t : List ℤ) (x : Node) (p j : ℕ) : Type 0 where
+-- p is the node x, in a table where it is marked just if its item is held
+pub record CanCommitNode (P : Problem) (held : List Entry) (n : ℕ) (t : List ℤ) (x : Node) (p : ℕ) : Type 0 where
   pub shown : Shown P held t
   pub n_is : n ≡ items P
   pub option : Placed
   pub placed_in : Mem option (placed P)
   pub node_in : Mem x (nodes_from option.first option.entries)
   pub is : p ≡ x.at
-  pub header : j ≡ suc x.entry.item
   pub marked_is : (view P held).marked x.at ≡ has_item x.entry.item held
 
-abbrev pub SomeCommitNode : ℕ → List ℤ → ℕ → ℕ → Type 0
-SomeCommitNode n t p j = (P : Problem) × (held : List Entry) × (x : Node) × CanCommitNode P held n t x p j
+abbrev pub SomeCommitNode : ℕ → List ℤ → ℕ → Type 0
+SomeCommitNode n t p = (P : Problem) × (held : List Entry) × (x : Node) × CanCommitNode P held n t x p
 
 -- t is the table t₁ with node x committed, which is marked just if its item was held before
-pub record CommittedNode (P : Problem) (held : List Entry) (n : ℕ) (t₁ t : List ℤ) (x : Node) (p j : ℕ) : Type 0 where
-  pub can : CanCommitNode P held n t₁ x p j
+pub record CommittedNode (P : Problem) (held : List Entry) (n : ℕ) (t₁ t : List ℤ) (x : Node) (p : ℕ) : Type 0 where
+  pub can : CanCommitNode P held n t₁ x p
   pub still : (view P (x.entry ∷ held)).marked x.at ≡ has_item x.entry.item held
   pub is : t ≡ run_events (items P) t₁ (commit_node P (has_item x.entry.item held) held x.entry)
 
-abbrev pub SomeCommittedNode : ℕ → List ℤ → ℕ → ℕ → Type 0
-SomeCommittedNode n t p j = (P : Problem) × (held : List Entry) × (t₁ : List ℤ) × (x : Node) × CommittedNode P held n t₁ t x p j
+abbrev pub SomeCommittedNode : ℕ → List ℤ → ℕ → Type 0
+SomeCommittedNode n t p = (P : Problem) × (held : List Entry) × (t₁ : List ℤ) × (x : Node)
+    × CommittedNode P held n t₁ t x p

@@ -4,13 +4,14 @@ ghost use Rattle.std.specs.Int.Signed.{lt_z, non_neg};
 ghost use Rattle.rules.specs.Words.{word, same};
 ghost use Rattle.rules.specs.Problem.{Entry, Problem, items};
 ghost use Rattle.rules.specs.Order.{Choice, has_item, one_colour};
-ghost use Rattle.rules.specs.Links.{Node, first_or, own, met, touch, commit_node, try, unlink, fall, apply};
+ghost use Rattle.rules.specs.Links.{Node, others, first_or, own, met, touch, commit_node, try, unlink, fall, apply};
 ghost use Rattle.rules.specs.Links as Links;
 ghost use Rattle.words.specs.Read.{Link, Above, CanRise, Spacer};
 ghost use Rattle.tables.specs.Shows.{view};
 ghost use Rattle.tables.specs.Undo.{undo, rise};
 ghost use Rattle.tables.specs.Views.{View};
 ghost use Rattle.links.specs.Moves.{InList, SomeList, IsHeader, SomeHeader, IsNode, SomeNode, Done, CanCommit, SomeCommit, Committed, SomeCommitted};
+ghost use Rattle.links.specs.Laps.{Lap, Does, SomeLap, LapDone, Undoes, SomeLapBack};
 ghost use Rattle.links.specs.Steps.{HasLink, Stands, SomeUnlink, SomeRelink, OneNode, SomeOne, unless, OneHidden, SomeOneHidden, CanHide, SomeHide, Hidden, SomeHidden};
 ghost use Rattle.links.specs.Steps.{Meeting, SomeMeeting, Parting, SomeParting, CanPurify, SomePurify, Purified, SomePurified, CanCommitNode, SomeCommitNode, CommittedNode, SomeCommittedNode};
 
@@ -23,6 +24,7 @@ use words::{
 // ---- `ONodes`
 
 // The words of node q. The contracts name the places, which the code writes out.
+// A function for each word, as in the Rust: one function of the word's number would be read by that number.
 
 // The header of its item; of a header, the length of its list.
 pub(crate) fn top_of(t: &[i32], n: usize, q: usize) -> usize
@@ -214,6 +216,50 @@ pub fn option_of(t: &[i32], n: usize, x: usize) -> usize
     number_of(t, n, q)
 }
 
+// ---- round an option
+
+// Does at each other node of the option of node p what `at` does there, from the node after p round to the one before
+// it. The result is the number of updates.
+fn round_right<F: Fn(&mut [i32], usize, usize) -> u64>(
+    t: &mut [i32],
+    n: usize,
+    p: usize,
+    at: F,
+) -> u64
+    requires { SomeLap F.pre F.post at n p t.old }
+    ensures { (P : Problem) (c : Choice) (L : Lap P c n p t.old) → Does F.pre F.post at L
+        → Done (items P) t.old (L.done (others c)) t.new result }
+{
+    let mut updates: u64 = 0;
+    let mut q = p + 1;
+    while q != p {
+        if is_node(t, n, q) {
+            updates += at(t, n, q);
+            q += 1;
+        } else {
+            q = up_of(t, n, q);
+        }
+    }
+    updates
+}
+
+// The same in the opposite order, with no updates.
+fn round_left<F: Fn(&mut [i32], usize, usize)>(t: &mut [i32], n: usize, p: usize, at: F)
+    requires { SomeLapBack F.pre F.post at n p t.old }
+    ensures { (P : Problem) (t₁ : List ℤ) (c : Choice) (L : Lap P c n p t₁) → LapDone L t.old
+        → Undoes F.pre F.post at L → t.new ≡ t₁ }
+{
+    let mut q = p - 1;
+    while q != p {
+        if is_node(t, n, q) {
+            at(t, n, q);
+            q -= 1;
+        } else {
+            q = down_of(t, n, q);
+        }
+    }
+}
+
 // ---- hiding
 
 // Node q leaves its list, whose length falls by one.
@@ -266,17 +312,7 @@ pub(crate) fn hide(t: &mut [i32], n: usize, p: usize) -> u64
     requires { SomeHide n t.old p }
     ensures { (P : Problem) (W : View) (held : List Entry) (c : Choice) → CanHide P W n t.old held c p → Done (items P) t.old (Links.hide P held c) t.new result }
 {
-    let mut updates: u64 = 0;
-    let mut q = p + 1;
-    while q != p {
-        if is_node(t, n, q) {
-            updates += hide_node(t, n, q);
-            q += 1;
-        } else {
-            q = up_of(t, n, q);
-        }
-    }
-    updates
+    round_right(t, n, p, hide_node)
 }
 
 // Unhides the option of node p: all in the opposite order.
@@ -284,15 +320,7 @@ pub(crate) fn unhide(t: &mut [i32], n: usize, p: usize)
     requires { SomeHidden n t.old p }
     ensures { (P : Problem) (W : View) (t₁ : List ℤ) (held : List Entry) (c : Choice) → Hidden P W n t₁ t.old held c p → t.new ≡ t₁ }
 {
-    let mut q = p - 1;
-    while q != p {
-        if is_node(t, n, q) {
-            unhide_node(t, n, q);
-            q -= 1;
-        } else {
-            q = down_of(t, n, q);
-        }
-    }
+    round_left(t, n, p, unhide_node);
 }
 
 // ---- purifying
@@ -324,20 +352,19 @@ fn unpurify_node(t: &mut [i32], n: usize, q: usize, c: usize)
     }
 }
 
-// Purifies the item of node p to p's colour. The result is the number of updates. `left` is as in `cover`.
+// Purifies the item of node p to p's colour. The result is the number of updates. The walk is as in `cover`, but a step
+// takes the colour too, so that one function for both would be no plainer.
 fn purify(t: &mut [i32], n: usize, p: usize) -> u64
     requires { SomePurify n t.old p }
     ensures { (P : Problem) (held : List Entry) (e : Entry) → CanPurify P held n t.old e p → Done (items P) t.old (touch P held e) t.new result }
 {
     let c = colour_of(t, n, p);
     let i = top_of(t, n, p);
-    let mut left = top_of(t, n, i);
     let mut updates: u64 = 0;
     let mut q = down_of(t, n, i);
     while q != i {
         updates += purify_node(t, n, q, c);
         q = down_of(t, n, q);
-        left -= 1;
     }
     updates
 }
@@ -349,24 +376,24 @@ fn unpurify(t: &mut [i32], n: usize, p: usize)
 {
     let c = colour_of(t, n, p);
     let i = top_of(t, n, p);
-    let mut left = top_of(t, n, i);
     let mut q = up_of(t, n, i);
     while q != i {
         unpurify_node(t, n, q, c);
         q = up_of(t, n, q);
-        left -= 1;
     }
 }
 
 // ---- committing
 
-// Commits node p, whose item's header is j: the item is covered, or purified where p has a colour. A marked node's item is held already. The
+// Commits node p: its item is covered, or purified where p has a colour. A marked node's item is held already. The
 // result is the number of updates.
-fn commit(t: &mut [i32], n: usize, p: usize, j: usize) -> u64
-    requires { SomeCommitNode n t.old p j }
-    ensures { (P : Problem) (held : List Entry) (x : Node) → CanCommitNode P held n t.old x p j → Done (items P) t.old (commit_node P (has_item x.entry.item held) held x.entry) t.new result }
+fn commit(t: &mut [i32], n: usize, p: usize) -> u64
+    requires { SomeCommitNode n t.old p }
+    ensures { (P : Problem) (held : List Entry) (x : Node) → CanCommitNode P held n t.old x p
+        → Done (items P) t.old (commit_node P (has_item x.entry.item held) held x.entry) t.new result }
 {
     if is_bare(t, n, p) {
+        let j = top_of(t, n, p);
         return cover(t, n, j);
     }
     if is_coloured(t, n, p) {
@@ -376,11 +403,13 @@ fn commit(t: &mut [i32], n: usize, p: usize, j: usize) -> u64
 }
 
 // Uncommits node p, whose colour is as it was.
-fn uncommit(t: &mut [i32], n: usize, p: usize, j: usize)
-    requires { SomeCommittedNode n t.old p j }
-    ensures { (P : Problem) (held : List Entry) (t₁ : List ℤ) (x : Node) → CommittedNode P held n t₁ t.old x p j → t.new ≡ t₁ }
+fn uncommit(t: &mut [i32], n: usize, p: usize)
+    requires { SomeCommittedNode n t.old p }
+    ensures { (P : Problem) (held : List Entry) (t₁ : List ℤ) (x : Node) → CommittedNode P held n t₁ t.old x p
+        → t.new ≡ t₁ }
 {
     if is_bare(t, n, p) {
+        let j = top_of(t, n, p);
         uncover(t, n, j);
         return;
     }
@@ -394,18 +423,7 @@ pub fn commit_all(t: &mut [i32], n: usize, x: usize) -> u64
     requires { SomeCommit n t.old x }
     ensures { (P : Problem) (held : List Entry) (c : Choice) → CanCommit P held n t.old c x → Done n t.old (try P held c) t.new result }
 {
-    let mut updates: u64 = 0;
-    let mut p = x + 1;
-    while p != x {
-        if is_node(t, n, p) {
-            let j = top_of(t, n, p);
-            updates += commit(t, n, p, j);
-            p += 1;
-        } else {
-            p = up_of(t, n, p);
-        }
-    }
-    updates
+    round_right(t, n, x, commit)
 }
 
 // Uncommits them, from the node before x round to the one after it: all in the opposite order.
@@ -413,14 +431,5 @@ pub fn uncommit_all(t: &mut [i32], n: usize, x: usize)
     requires { SomeCommitted n t.old x }
     ensures { (P : Problem) (held : List Entry) (t₁ : List ℤ) (c : Choice) → Committed P held n t₁ t.old c x → t.new ≡ t₁ }
 {
-    let mut p = x - 1;
-    while p != x {
-        if is_node(t, n, p) {
-            let j = top_of(t, n, p);
-            uncommit(t, n, p, j);
-            p -= 1;
-        } else {
-            p = down_of(t, n, p);
-        }
-    }
+    round_left(t, n, x, uncommit);
 }

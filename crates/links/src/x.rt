@@ -75,19 +75,16 @@ fn relink_item(t: &mut [i32], i: usize)
     put_left(t, r, i);
 }
 
-// Covers the item whose header is i. The result is the number of updates. `left` counts the nodes that are still to be met, for the proof
-// that the walk ends.
+// Covers the item whose header is i. The result is the number of updates.
 pub fn cover(t: &mut [i32], n: usize, i: usize) -> u64
     requires { SomeCover n t.old i }
     ensures { (P : Problem) (held : List Entry) (j : ℕ) → CanCover P held n t.old j i → Done n t.old (touch P held (bare j)) t.new result }
 {
-    let mut left = top_of(t, n, i);
     let mut updates: u64 = 0;
     let mut p = down_of(t, n, i);
     while p != i {
         updates += hide(t, n, p);
         p = down_of(t, n, p);
-        left -= 1;
     }
     unlink_item(t, i);
     updates + 1
@@ -99,11 +96,9 @@ pub fn uncover(t: &mut [i32], n: usize, i: usize)
     ensures { (P : Problem) (held : List Entry) (t₁ : List ℤ) (j : ℕ) → Covered P held n t₁ t.old j i → t.new ≡ t₁ }
 {
     relink_item(t, i);
-    let mut left = top_of(t, n, i);
     let mut p = up_of(t, n, i);
     while p != i {
         unhide(t, n, p);
         p = up_of(t, n, p);
-        left -= 1;
     }
 }

@@ -2,149 +2,178 @@
 // colour the runtime loaded there: runs may share a minute of a machine where they want the same runtime.
 #![tactic(auto)]
 
-ghost use Rattle.std.specs.Prelude.{length, ◌≡◌, ◌<◌};
+ghost use Rattle.std.specs.Prelude.{length, ◌≡◌};
 
-use rules::{NextAnswer, SetUpAnswer, State};
+use rules::{NextAnswer, State};
+use std::fmt;
 
-const RUNS: usize = 3;
+const RUNS: i32 = 3;
 
-const MACHINES: usize = 2;
+const MACHINES: i32 = 2;
 
 const OPTIONS: usize = 6;
 
-// Where each run may be placed: run, minute, machine, runtime.
-const PLACEMENTS: [[u8; 4]; OPTIONS] = [
-    [0, 30, 0, 7],
-    [0, 31, 1, 7],
-    [1, 31, 1, 9],
-    [1, 31, 1, 7],
-    [2, 31, 1, 7],
-    [2, 30, 0, 9],
+// Where a run may be placed, and the runtime that it wants there.
+#[derive(Clone, Copy)]
+struct Placement {
+    run: u8,
+    minute: u8,
+    machine: u8,
+    runtime: u8,
+}
+
+const PLACEMENTS: [Placement; OPTIONS] = [
+    Placement {
+        run: 0,
+        minute: 30,
+        machine: 0,
+        runtime: 7,
+    },
+    Placement {
+        run: 0,
+        minute: 31,
+        machine: 1,
+        runtime: 7,
+    },
+    Placement {
+        run: 1,
+        minute: 31,
+        machine: 1,
+        runtime: 9,
+    },
+    Placement {
+        run: 1,
+        minute: 31,
+        machine: 1,
+        runtime: 7,
+    },
+    Placement {
+        run: 2,
+        minute: 31,
+        machine: 1,
+        runtime: 7,
+    },
+    Placement {
+        run: 2,
+        minute: 30,
+        machine: 0,
+        runtime: 9,
+    },
 ];
 
-fn wide(byte: u8) -> usize
-    ensures { result < 256 }
-{
-    byte as usize
-}
-
-// Writes a placement as an option of two entries: its run, uncoloured, and its machine minute in the colour of the runtime.
-fn put_option(problem: &mut [i32], option: usize)
-    requires problem_len { length problem.old ≡ 33 }
-    requires option_bound { option < 6 }
-{
-    let placement = PLACEMENTS[option];
-    let at = 3 + 5 * option;
-    words::put_link(problem, at, 2);
-    words::put_link(problem, at + 1, wide(placement[0]));
-    words::put_link(problem, at + 2, 0);
-    words::put_link(
-        problem,
-        at + 3,
-        RUNS + 60 * wide(placement[2]) + wide(placement[1]),
-    );
-    words::put_link(problem, at + 4, wide(placement[3]));
-}
-
-fn put_problem(problem: &mut [i32])
-    requires { length problem.old ≡ 33 }
-{
-    words::put_link(problem, 0, RUNS);
-    words::put_link(problem, 1, 60 * MACHINES);
-    words::put_link(problem, 2, OPTIONS);
-    let mut option = 0;
-    while option < OPTIONS {
-        put_option(problem, option);
-        option += 1;
+impl Placement {
+    // An option of two entries: the run, uncoloured, and the machine's minute in the colour of the runtime.
+    fn option(self) -> [i32; 5] {
+        let minute = RUNS + 60 * i32::from(self.machine) + i32::from(self.minute);
+        [2, i32::from(self.run), 0, minute, i32::from(self.runtime)]
     }
 }
 
-fn show(rt: &HostRuntime, text: &str, number: u8) {
-    let _ = print!(rt; "{text}{number}");
+impl fmt::Display for Placement {
+    fn fmt<W: fmt::Write>(&self, f: &mut fmt::Formatter<W>) -> fmt::Result {
+        let Placement {
+            run,
+            minute,
+            machine,
+            runtime,
+        } = *self;
+        write!(
+            f,
+            "run {run} at minute {minute} on machine {machine}, runtime {runtime}"
+        )
+    }
 }
 
-fn show_placement(rt: &HostRuntime, option: usize)
-    requires { option < 6 }
-{
-    let placement = PLACEMENTS[option];
-    show(rt, "run ", placement[0]);
-    show(rt, " at minute ", placement[1]);
-    show(rt, " on machine ", placement[2]);
-    show(rt, ", runtime ", placement[3]);
-    let _ = rt.println("");
+// The lists lent to each call.
+#[derive(Drop)]
+struct Lent {
+    problem: [i32; 33],
+    table: [i32; 822],
+    spare: [i32; 822],
+    path: [i32; 3],
+    profile: [u64; 3],
+    found: [i32; 3],
 }
 
-// A solution's placements, in the order in which they were chosen. Each word is an option's number; the test says so to the proof.
-fn show_solution(rt: &HostRuntime, chosen: &[i32]) {
-    let mut i = 0;
-    while i < chosen.len() {
-        if words::is_below(chosen, i, OPTIONS) {
-            show_placement(rt, words::link_at(chosen, i));
+impl Lent {
+    fn new() -> Self {
+        let mut problem = [0; 33];
+        problem[..3].copy_from_slice(&[RUNS, 60 * MACHINES, OPTIONS as i32]);
+        for (option, placement) in problem[3..].chunks_exact_mut(5).zip(&PLACEMENTS) {
+            option.copy_from_slice(&placement.option());
         }
-        i += 1;
+        Lent {
+            problem,
+            table: [0; 822],
+            spare: [0; 822],
+            path: [0; 3],
+            profile: [0; 3],
+            found: [0; 3],
+        }
     }
-}
 
-fn show_title(rt: &HostRuntime, night: u8) {
-    let _ = println!(rt; "night {night}");
-}
+    fn set_up(&mut self) -> Result<State, rules::Refused> {
+        calls::set_up(
+            &self.problem,
+            &mut self.table,
+            &mut self.path,
+            &mut self.profile,
+        )
+    }
 
-fn show_end(rt: &HostRuntime, answer: NextAnswer) {
-    if let NextAnswer::Exhausted(_, _) = answer {
-        let _ = rt.println("no more");
-    } else {
-        let _ = rt.println("stopped");
+    fn next(&mut self, state: State) -> Result<NextAnswer, rules::Refused> {
+        calls::next(
+            &self.problem,
+            &mut self.table,
+            &mut self.spare,
+            &mut self.path,
+            &mut self.profile,
+            &mut self.found,
+            state,
+            1000,
+        )
+    }
+
+    // A solution's placements, in the order in which they were chosen.
+    fn show(&self, rt: &HostRuntime, solution: State) {
+        for option in calls::report(&self.found, solution) {
+            let Some(placement) = usize::try_from(*option)
+                .ok()
+                .and_then(|o| PLACEMENTS.get(o))
+            else {
+                continue;
+            };
+            let _ = rt.println(placement);
+        }
     }
 }
 
 // Shows the solutions one by one. A proved loop has to end: a hundred are more than this night has.
-fn show_nights(
-    rt: &HostRuntime,
-    problem: &[i32],
-    table: &mut [i32],
-    spare: &mut [i32],
-    path: &mut [i32],
-    profile: &mut [u64],
-    found: &mut [i32],
-    ready: State,
-) {
+fn show_nights(rt: &HostRuntime, lent: &mut Lent, ready: State) {
     let mut state = ready;
-    let mut night = 0;
-    while night < 100 {
-        let answer = calls::next(problem, table, spare, path, profile, found, state, 1000);
-        let NextAnswer::Solution(after, _) = answer else {
-            show_end(rt, answer);
-            return;
-        };
-        night += 1;
-        show_title(rt, night);
-        show_solution(rt, calls::report(found, after));
-        state = after;
+    for night in 1..=100 {
+        match lent.next(state) {
+            Ok(NextAnswer::Solution(after, _)) => state = after,
+            Ok(NextAnswer::Exhausted(_, _)) => {
+                let _ = rt.println("no more");
+                return;
+            }
+            _ => {
+                let _ = rt.println("stopped");
+                return;
+            }
+        }
+        let _ = println!(rt; "night {night}");
+        lent.show(rt, state);
     }
 }
 
 fn main(rt: HostRuntime) {
-    let mut problem = [0i32; 33];
-    let mut table = [0i32; 822];
-    let mut spare = [0i32; 822];
-    let mut path = [0i32; 3];
-    let mut profile = [0u64; 3];
-    let mut found = [0i32; 3];
-    put_problem(&mut problem);
-    match calls::set_up(&problem, &mut table, &mut path, &mut profile) {
-        SetUpAnswer::SetUp(ready) => {
-            show_nights(
-                &rt,
-                &problem,
-                &mut table,
-                &mut spare,
-                &mut path,
-                &mut profile,
-                &mut found,
-                ready,
-            );
-        }
-        SetUpAnswer::Refused(_, number) => {
+    let mut lent = Lent::new();
+    match lent.set_up() {
+        Ok(ready) => show_nights(&rt, &mut lent, ready),
+        Err(refused) => {
+            let number = refused.number;
             let _ = println!(rt; "refused {number}");
         }
     }

@@ -1,21 +1,31 @@
 -- The loop over an option's entries, and the one over the options, that look for the first fault.
 use mathlib.Core.List.{List, [], ◌∷◌}
-use mathlib.Core.Path.{◌≡◌, refl, sym, ap, ◌∙◌}
+use mathlib.Core.Path.{◌≡◌, refl, ap, ◌∙◌}
 use Prim.Native.Nat.{ℕ, zero, suc, ◌+◌, ◌*◌, ◌-◌, ◌≤◌, ◌<◌}
 use native.Mathlib.Omega.{arith}
 use lib.Dec.{T}
+use Rattle.std.specs.Prelude.{Ok, Err, ⊤}
 use lib.IntN.{ℤ, pos}
-use lib.ListN.{length, set, drop, length-set}
+use lib.ListN.{length, set, drop}
+use lib.Signed.{non_neg}
 use Rattle.rules.specs.Problem.{Pair, first_of, entry_fault, option_fault, options_fault}
 use Rattle.rules.specs.Words.{word, below}
 use Rattle.problem.proofs.MarkLaws.{marked_none, marked_set, older_set, older_later}
-use Rattle.problem.specs.CutLaws.{pair_at, entries_at, entries_step, pairs_none, options_at, options_none, Whole, Turn}
-use Rattle.problem.specs.Marks.{Marked, Older}
+use Rattle.problem.specs.CutLaws.{pair_at, entries_at, entries_turn, pairs_none, options_at, options_none, Whole}
+use Rattle.problem.specs.CutLaws.{Turn, in_range, natural, turn}
+use Rattle.problem.specs.Marks.{Marked, Older, refused}
+use Rattle.problem.specs.Measured.{judged_sized}
 use Rattle.laws.specs.Faults.{need_holds}
+use Rattle.laws.specs.Lists.{cannot}
 
-pub first_here : (f later : ℕ) → (f ≡ 0 → ⊥) → first_of f later ≡ f
-first_here zero later h = absurd (h refl)
-first_here (suc f) later h = refl
+-- a fault is the first, and after none comes the next
+pub judged_stop : (f later : ℕ) {k : ℕ} → Err k ≡ refused f → Err k ≡ refused (first_of f later)
+judged_stop zero later e = cannot (cc)
+judged_stop (suc f) later e = e
+
+pub judged_go : (f later : ℕ) {u : ⊤} → Ok u ≡ refused f → first_of f later ≡ later
+judged_go zero later e = refl
+judged_go (suc f) later e = cannot (cc)
 
 -- ---- the entries
 
@@ -28,57 +38,63 @@ unfolding option_fault
 entries_fault np n seen e es = refl
 
 -- an entry with no fault has an item in range
-pub item_below : (np n : ℕ) (seen : List ℤ) (e : Pair) → 0 ≡ entry_fault np n seen e → T (below n e.item)
+pub item_below : (np n : ℕ) (seen : List ℤ) (e : Pair) {u : ⊤} → Ok u ≡ refused (entry_fault np n seen e)
+    → T (below n e.item)
 unfolding entry_fault
-item_below np n seen e h = (need_holds (below n e.item) 4 _ (sym h)).0
+item_below np n seen e h = (need_holds (below n e.item) 4 _ (judged_sized _ h).0).0
 
--- of the k entries at p, `left` are ahead at q, and the items of those behind are marked
-pub record Passing (ws : List ℤ) (p k np n : ℕ) (marks₀ : List ℕ) (stamp : ℕ) (marks : List ℕ) (q left : ℕ) : Type 0 where
-  pub room : q + 2 * left ≤ length ws
-  pub size : length marks ≡ length marks₀
+-- of the k entries at p, the items of the first i are marked
+pub record Passing (ws : List ℤ) (p k np n stamp : ℕ) (marks : List ℕ) (i : ℕ) : Type 0 where
   pub older : Older marks n (stamp + 1)
   pub seen : List ℤ
   pub marked : Marked marks n stamp seen
-  pub same_fault : option_fault np n [] (entries_at ws p k) ≡ option_fault np n seen (entries_at ws q left)
+  pub same_fault : option_fault np n [] (entries_at ws p k) ≡ option_fault np n seen (entries_at ws (p + 2 * i) (k - i))
 
-module _ (ws : List ℤ) (p k np n : ℕ) (marks₀ : List ℕ) (stamp : ℕ) where
-  pub passing_start : p + 2 * k ≤ length ws → Older marks₀ n stamp → Passing ws p k np n marks₀ stamp marks₀ p k
-  passing_start h O =
-      record { room = h; size = refl; older = older_later (stamp + 1) (omega arith) O; seen = []; marked = marked_none O; same_fault = refl }
+module _ (ws : List ℤ) (p k np n stamp : ℕ) where
+  pub passing_start : {marks : List ℕ} → Older marks n stamp → Passing ws p k np n stamp marks 0
+  passing_start O =
+      record {
+        older = older_later (stamp + 1) (omega arith) O;
+        seen = [];
+        marked = marked_none O;
+        same_fault =
+            let z : p + 2 * 0 ≡ p = omega arith in let y : k - 0 ≡ k = omega arith in rw (z, y) refl;
+      }
 
-  module _ {marks : List ℕ} {q left : ℕ} (I : Passing ws p k np n marks₀ stamp marks q left) where
-    module _ (f : ℕ) (z : 0 < left) (e : f ≡ entry_fault np n I.seen (pair_at ws q)) where
+  module _ {marks : List ℕ} {i : ℕ} (I : Passing ws p k np n stamp marks i) where
+    module _ (z : i < k) (h : p + 2 * k ≤ length ws) where
+      abbrev here : ℕ
+      here = entry_fault np n I.seen (pair_at ws (p + 2 * i))
+
       abbrev later : ℕ
-      later = option_fault np n (word ws q ∷ I.seen) (entries_at ws (q + 2) (left - 1))
+      later = option_fault np n (word ws (p + 2 * i) ∷ I.seen) (entries_at ws (p + 2 * (i + 1)) (k - (i + 1)))
 
-      here_first : option_fault np n [] (entries_at ws p k) ≡ first_of f later
+      here_first : option_fault np n [] (entries_at ws p k) ≡ first_of here later
       here_first =
-          let h = I.room in
-          I.same_fault ∙ ap (option_fault np n I.seen) (entries_step ws q left z (omega arith))
-          ∙ entries_fault np n I.seen (pair_at ws q) (entries_at ws (q + 2) (left - 1)) ∙ ap (λ (g : ℕ). first_of g later) (sym e)
+          I.same_fault ∙ ap (option_fault np n I.seen) (entries_turn ws p k i z h)
+          ∙ entries_fault np n I.seen (pair_at ws (p + 2 * i)) (entries_at ws (p + 2 * (i + 1)) (k - (i + 1)))
 
-      pub passing_stop : (f ≡ 0 → ⊥) → f ≡ option_fault np n [] (entries_at ws p k)
-      passing_stop h = sym (here_first ∙ first_here f later h)
+      pub passing_stop : {r : ℕ} → Err r ≡ refused here → Err r ≡ refused (option_fault np n [] (entries_at ws p k))
+      passing_stop e = rw here_first (judged_stop here later e)
 
-      pub passing_turn : f ≡ 0 → (x : ℕ) → word ws q ≡ pos x → x < length marks → Passing ws p k np n marks₀ stamp (set marks x stamp) (q + 2) (left - 1)
-      passing_turn o x i l =
-          let h = I.room in
+      pub passing_turn : {u : ⊤} → Ok u ≡ refused here → (x : ℕ) → word ws (p + 2 * i) ≡ pos x → x < length marks
+          → Passing ws p k np n stamp (set marks x stamp) (i + 1)
+      passing_turn o x w l =
           record {
-            room = omega arith;
-            size = length-set marks x stamp ∙ I.size;
             older = older_set marks x stamp l n (stamp + 1) (omega arith) (λ y m d. I.older.are y m);
             seen = pos x ∷ I.seen;
             marked = marked_set marks x stamp l I.marked;
             same_fault =
-                here_first ∙ ap (λ (g : ℕ). first_of g later) o
-                ∙ ap (λ (w : ℤ). option_fault np n (w ∷ I.seen) (entries_at ws (q + 2) (left - 1))) i;
+                here_first ∙ judged_go here later o
+                ∙ ap (λ (z : ℤ). option_fault np n (z ∷ I.seen) (entries_at ws (p + 2 * (i + 1)) (k - (i + 1)))) w;
           }
 
-    pub passing_end : left ≡ 0 → 0 ≡ option_fault np n [] (entries_at ws p k)
-    passing_end z =
-        sym
-        (I.same_fault ∙ ap (λ (m : ℕ). option_fault np n I.seen (entries_at ws q m)) z ∙ ap (option_fault np n I.seen) (pairs_none (drop q ws))
-        ∙ entries_clean np n I.seen)
+    pub passing_end : k ≤ i → option_fault np n [] (entries_at ws p k) ≡ 0
+    passing_end h =
+        let z : k - i ≡ 0 = omega arith in
+        I.same_fault ∙ ap (λ (m : ℕ). option_fault np n I.seen (entries_at ws (p + 2 * i) m)) z
+        ∙ ap (option_fault np n I.seen) (pairs_none (drop (p + 2 * i) ws))
+        ∙ entries_clean np n I.seen
 
 -- ---- the options
 
@@ -90,39 +106,74 @@ options_first : (np n : ℕ) (o : List Pair) (os : List (List Pair)) → options
 unfolding options_fault
 options_first np n o os = refl
 
--- of the m options from the fourth word on, `ahead` are ahead at `at`, and every mark is below `at`
-pub record Searching (ws : List ℤ) (m np n : ℕ) (marks₀ marks : List ℕ) (at ahead : ℕ) : Type 0 where
-  pub size : length marks ≡ length marks₀
+-- of the m options from the fourth word on, i are behind `at`, and every mark is below `at`
+pub record Searching (ws : List ℤ) (m np n : ℕ) (marks : List ℕ) (at i : ℕ) : Type 0 where
   pub older : Older marks n at
-  pub whole : Whole ws at ahead
-  pub same_fault : options_fault np n (options_at ws 3 m) ≡ options_fault np n (options_at ws at ahead)
+  pub whole : Whole ws at (m - i)
+  pub same_fault : options_fault np n (options_at ws 3 m) ≡ options_fault np n (options_at ws at (m - i))
 
-module _ (ws : List ℤ) (m np n : ℕ) (marks₀ : List ℕ) where
-  pub searching_start : Whole ws 3 m → Older marks₀ n 3 → Searching ws m np n marks₀ marks₀ 3 m
-  searching_start g O = record { size = refl; older = O; whole = g; same_fault = refl }
+module _ (ws : List ℤ) (m np n : ℕ) where
+  pub searching_start : {marks : List ℕ} → Whole ws 3 m → Older marks n 3 → Searching ws m np n marks 3 0
+  searching_start g O = let y : m - 0 ≡ m = omega arith in record { older = O; whole = rw y g; same_fault = rw y refl }
 
-  module _ {marks : List ℕ} {at ahead : ℕ} (I : Searching ws m np n marks₀ marks at ahead) where
-    module _ {k : ℕ} (t : Turn ws at ahead k) (f : ℕ) (e : f ≡ option_fault np n [] (entries_at ws (at + 1) k)) where
+  module _ {marks : List ℕ} {at i : ℕ} (I : Searching ws m np n marks at i) where
+    module _ (z : i < m) where
+      ahead : 0 < m - i
+      ahead = omega arith
+
+      pub count_in_range : at < length ws
+      count_in_range = in_range ws at (m - i) ahead I.whole
+
+      pub count_natural : T (non_neg (word ws at))
+      count_natural = natural ws at (m - i) ahead I.whole
+
+    module _ (z : i < m) {k : ℕ} (w : word ws at ≡ pos k) where
+      -- the option of the turn
+      option_here : Turn ws at (m - i) k
+      option_here = turn ws at (m - i) (omega arith) I.whole k w
+
+      pub option_room : at + 1 + 2 * k ≤ length ws
+      option_room = option_here.room
+
+      abbrev this : ℕ
+      this = option_fault np n [] (entries_at ws (at + 1) k)
+
       abbrev after : ℕ
-      after = options_fault np n (options_at ws (at + (1 + 2 * k)) (ahead - 1))
+      after = options_fault np n (options_at ws (at + (1 + 2 * k)) (m - i - 1))
 
-      this_first : options_fault np n (options_at ws 3 m) ≡ first_of f after
+      this_first : options_fault np n (options_at ws 3 m) ≡ first_of this after
       this_first =
-          I.same_fault ∙ ap (options_fault np n) t.options_are
-          ∙ options_first np n (entries_at ws (at + 1) k) (options_at ws (at + (1 + 2 * k)) (ahead - 1)) ∙ ap (λ (g : ℕ). first_of g after) (sym e)
+          I.same_fault ∙ ap (options_fault np n) option_here.options_are
+          ∙ options_first np n (entries_at ws (at + 1) k) (options_at ws (at + (1 + 2 * k)) (m - i - 1))
 
-      pub searching_stop : (f ≡ 0 → ⊥) → f ≡ options_fault np n (options_at ws 3 m)
-      searching_stop h = sym (this_first ∙ first_here f after h)
+      pub searching_stop : {r : ℕ} → Err r ≡ refused this → Err r ≡ refused (options_fault np n (options_at ws 3 m))
+      searching_stop e = rw this_first (judged_stop this after e)
 
-      pub searching_turn : f ≡ 0 → (marks' : List ℕ) → length marks' ≡ length marks → Older marks' n (at + 1) → Searching ws m np n marks₀ marks' (at + (1 + 2 * k)) (ahead - 1)
-      searching_turn o marks' s O =
+      pub searching_turn : {u : ⊤} → Ok u ≡ refused this → {marks' : List ℕ} → Older marks' n (at + 1)
+          → Searching ws m np n marks' (at + (1 + 2 * k)) (i + 1)
+      searching_turn o O =
+          let e : m - i - 1 ≡ m - (i + 1) = omega arith in
+          let r = option_here.room in
           record {
-            size = s ∙ I.size;
             older = older_later (at + (1 + 2 * k)) (omega arith) O;
-            whole = t.whole;
-            same_fault = this_first ∙ ap (λ (g : ℕ). first_of g after) o;
+            whole = rw e at option_here.whole;
+            same_fault = rw e at (this_first ∙ judged_go this after o);
           }
 
-    pub searching_end : ahead ≡ 0 → 0 ≡ options_fault np n (options_at ws 3 m)
-    searching_end z =
-        sym (I.same_fault ∙ ap (λ (j : ℕ). options_fault np n (options_at ws at j)) z ∙ ap (options_fault np n) (options_none ws at) ∙ options_clean np n)
+    pub searching_end : m ≤ i → options_fault np n (options_at ws 3 m) ≡ 0
+    searching_end h =
+        let z : m - i ≡ 0 = omega arith in
+        I.same_fault ∙ ap (λ (j : ℕ). options_fault np n (options_at ws at j)) z
+        ∙ ap (options_fault np n) (options_none ws at) ∙ options_clean np n
+
+pub ruleset passing_laws = (item_below, passing_start, passing_stop, passing_turn, passing_end)
+
+pub ruleset searching_laws = (
+  searching_start,
+  count_in_range,
+  count_natural,
+  option_room,
+  searching_stop,
+  searching_turn,
+  searching_end,
+)

@@ -7,15 +7,16 @@ use Prim.Native.Nat.{ℕ, suc, ◌+◌, ◌≤◌, ◌<◌}
 use native.Mathlib.Omega.{arith}
 use borrow.Author.Tests.{eq-eqb, ne_eqb, eqb-true, eqb-false}
 use lib.Dec.{eqb, ltb}
-use lib.IntN.{ℤ, pos, negsuc}
+use lib.IntN.{ℤ, pos}
 use lib.ListN.{length, get_or, set}
 use lib.Seq.{get_or-set_same, get_or-set_other}
+use Rattle.std.specs.Prelude.{Result, Err, ⊤}
+use Rattle.std.specs.Result.{result_and}
 use Rattle.rules.specs.Lists.{has}
-use Rattle.rules.specs.Problem.{need, first_of, entry_fault}
+use Rattle.rules.specs.Problem.{need, entry_fault}
 use Rattle.rules.specs.Words.{word, below, same}
-use Rattle.laws.specs.Lists.{cannot}
 use Rattle.problem.specs.CutLaws.{pair_at}
-use Rattle.problem.specs.Marks.{Marked, Older, colour_fault}
+use Rattle.problem.specs.Marks.{Marked, Older, colour_fault, refused}
 
 has_none : (z : ℤ) → has (same z) [] ≡ false
 unfolding has
@@ -59,22 +60,23 @@ module _ (marks : List ℕ) (i v : ℕ) (h : i < length marks) where
 
 -- ---- the fault of one entry
 
-pub primary_well : (z : ℤ) → same z (pos 0) ≡ true → 0 ≡ colour_fault true z
-primary_well (pos k) e = rw e
-primary_well (negsuc k) e = cannot (cc)
-
-row : (b : Bool) (k later : ℕ) → first_of (need b (suc k) 0) later ≡ need b (suc k) later
+row : (b : Bool) (k later : ℕ) → result_and (refused (need b (suc k) 0)) (refused later) ≡ refused
+    (need b (suc k) later)
 row true k later = refl
 row false k later = refl
 
 module _ (ws : List ℤ) (p np n : ℕ) (seen : List ℤ) where
-  pub out_of_range : below n (word ws p) ≡ false → 5 ≡ entry_fault np n seen (pair_at ws p)
+  pub out_of_range : below n (word ws p) ≡ false → Err 5 ≡ refused (entry_fault np n seen (pair_at ws p))
   unfolding entry_fault
   out_of_range e = rw e
 
   -- f is 6 where the mark tells that the item was seen, and g is the fault of the colour
-  pub in_range : (x : ℕ) {b : Bool} {f g r : ℕ} → word ws p ≡ pos x → ltb x n ≡ true → b ≡ has (same (pos x)) seen → f ≡ need (not b) 6 0
-      → g ≡ colour_fault (ltb x np) (word ws (p + 1)) → r ≡ first_of f g → r ≡ entry_fault np n seen (pair_at ws p)
+  pub in_range : (x : ℕ) {b : Bool} {f g r : Result ⊤ ℕ} → word ws p ≡ pos x → ltb x n ≡ true
+      → b ≡ has (same (pos x)) seen → f ≡ refused (need (not b) 6 0)
+      → g ≡ refused (colour_fault (ltb x np) (word ws (p + 1))) → r ≡ result_and f g
+      → r ≡ refused (entry_fault np n seen (pair_at ws p))
   unfolding entry_fault
   in_range x i l m u v w =
       rw (w, u, v, m, i, l) (row (not (has (same (pos x)) seen)) 5 (colour_fault (ltb x np) (word ws (p + 1))))
+
+pub ruleset entry_laws = (out_of_range, in_range)

@@ -1,7 +1,7 @@
 -- What the first three words decide.
-use Rattle.std.specs.Prelude.{List, ◌≡◌, ℕ, ◌≤◌, leb, ℤ, length}
+use Rattle.std.specs.Prelude.{List, ◌≡◌, ℕ, ◌≤◌, leb, ℤ, length, Result, Ok, Err, ⊤}
 use Rattle.rules.specs.Lists.{got, or_none}
-use Rattle.rules.specs.Problem.{need, first_of, parts, count_pairs, cut_refusal}
+use Rattle.rules.specs.Problem.{need, parts, count_pairs, cut_refusal, verdict}
 use Rattle.rules.specs.declared.Limits.{Limits}
 use Rattle.words.specs.Read.{Natural}
 
@@ -19,7 +19,7 @@ pub record Headed (ws : List ℤ) : Type 0 where
   pub ns : Natural ws 1
   pub options : Natural ws 2
 
--- r is what the rows of the first three words refuse, 0 for none
-pub record Heads (L : Limits) (least : ℕ) (ws : List ℤ) (r : ℕ) : Type 0 where
-  pub first : cut_refusal L least ws ≡ first_of r (options_refusal L ws)
-  pub headed : r ≡ 0 → Headed ws
+-- what the rows of the first three words refuse is the verdict; where they refuse nothing, the rows after them decide
+abbrev pub Heads : Limits → ℕ → List ℤ → Result ⊤ ℕ → Type 0
+Heads L least ws (Ok _) = Headed ws × (cut_refusal L least ws ≡ options_refusal L ws)
+Heads L least ws (Err k) = Err k ≡ verdict L least ws

@@ -1,6 +1,7 @@
 -- What is known of words once their verdict is.
 use Rattle.std.proofs.Math.Bool.{Bool}
-use Rattle.std.specs.Prelude.{true, false, ◌&&◌, List, [], ◌∷◌, ◌≡◌, refl, ℕ, zero, suc, ◌+◌, ◌*◌, ◌≤◌, ◌<◌, ◌^◌, T, ℤ, pos, negsuc, length, drop}
+use Rattle.std.specs.Prelude.{true, false, ◌&&◌, List, [], ◌∷◌, ◌≡◌, refl, ℕ, zero, suc, ◌+◌, ◌*◌, ◌≤◌, ◌<◌, ◌^◌, T}
+use Rattle.std.specs.Prelude.{ℤ, pos, negsuc, length, drop, Result, Ok, Err}
 use Rattle.std.proofs.Math.Path.{ap}
 use Rattle.std.proofs.Common.{◌∙◌, arith, length-drop}
 use Rattle.std.proofs.Math.Dec.{leb, leb→le}
@@ -11,7 +12,6 @@ use Rattle.rules.specs.Problem.{Pair, need, first_of, judged, cut_refusal, probl
 use Rattle.rules.specs.Words.{word, nat}
 use Rattle.rules.specs.declared.Limits.{Limits}
 use Rattle.rules.specs.declared.Sizes.{Sizes}
-use Rattle.rules.specs.declared.Verdict.TheVariants.{Refused, Sized}
 use Rattle.laws.specs.Lists.{cannot}
 use Rattle.problem.specs.CutLaws.{Whole, options_at, length_options, few_pairs}
 use Rattle.laws.specs.Faults.{need_holds}
@@ -90,11 +90,11 @@ entries_in ws s M =
 
 -- ---- from the verdict
 
-pub judged_sized : (k : ℕ) {s s' : Sizes} → Sized s ≡ judged k s' → (k ≡ 0) × (s ≡ s')
+pub judged_sized : {A : Type 0} (k : ℕ) {s s' : A} → Ok s ≡ judged k s' → (k ≡ 0) × (s ≡ s')
 judged_sized zero e = (refl, cc)
 judged_sized (suc k) e = cannot (cc)
 
-pub judged_refused : (k : ℕ) (s : Sizes) {j : ℕ} → Refused j ≡ judged k s → (k ≡ j) × (0 < j)
+pub judged_refused : {A : Type 0} (k : ℕ) (s : A) {j : ℕ} → Err j ≡ judged k s → (k ≡ j) × (0 < j)
 judged_refused zero s e = cannot (cc)
 judged_refused (suc k) s {j} e = let u : suc k ≡ j = cc in (u, omega arith)
 
@@ -108,7 +108,7 @@ at_least k (pos n) t = leb→le k n t
 at_least k (negsuc n) t = absurd t
 
 module _ (L : Limits) (least : ℕ) (ws : List ℤ) where
-  passed : (s : Sizes) → Sized s ≡ verdict L least ws → (cut_refusal L least ws ≡ 0) × (s ≡ sizes (cut ws))
+  passed : (s : Sizes) → Ok s ≡ verdict L least ws → (cut_refusal L least ws ≡ 0) × (s ≡ sizes (cut ws))
   unfolding verdict
   passed s e = judged_sized (cut_refusal L least ws) e
 
@@ -142,7 +142,7 @@ module _ (L : Limits) (least : ℕ) (ws : List ℤ) where
         },
       )
 
-  module _ (s : Sizes) (e : Sized s ≡ verdict L least ws) where
+  module _ (s : Sizes) (e : Ok s ≡ verdict L least ws) where
     pub measured : Measured ws s
     measured = record { whole = (cut_within (passed s e).0).0; are = (passed s e).1 }
 
@@ -151,14 +151,14 @@ module _ (L : Limits) (least : ℕ) (ws : List ℤ) where
 
     -- sizes that were read from words can be added up
     pub countable : s.np < 2147483648 → s.ns < 2147483648 → s.options < 2147483648 → length ws < 2 ^ 64
-        → (Sized s ≡ verdict L least ws) × ((z : Sizes) → Sized s ≡ Sized z → node_count z < 2 ^ 64)
+        → (Ok s ≡ verdict L least ws) × ((z : Sizes) → ◌≡◌ {A = Result Sizes ℕ} (Ok s) (Ok z) → node_count z < 2 ^ 64)
     countable a b c l = (e, λ z u. let v = (judged_sized 0 u).1 in rw (← v) (omega (arith, within.few_kept, entries_in ws s measured)))
 
     pub sized_refusal : (room : Sizes → Bool) → problem_refusal L least room ws ≡ need (room s) 9 (fault (cut ws))
     unfolding problem_refusal
     sized_refusal room = rw ((passed s e).0, (passed s e).1)
 
-  module _ (k : ℕ) (e : Refused k ≡ verdict L least ws) where
+  module _ (k : ℕ) (e : Err k ≡ verdict L least ws) where
     pub refused_refusal : (room : Sizes → Bool) → problem_refusal L least room ws ≡ k
     unfolding problem_refusal verdict
     refused_refusal room =

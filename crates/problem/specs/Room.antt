@@ -1,10 +1,9 @@
 -- 9's test by two numbers, the limits that the marks leave, and what is known of words that are not refused. Assumes nothing.
-use Rattle.std.specs.Prelude.{◌≡◌, Bool, ◌&&◌, List, ℕ, ◌≤◌, min, T, leb, ℤ}
+use Rattle.std.specs.Prelude.{◌≡◌, Bool, ◌&&◌, List, ℕ, ◌≤◌, min, T, leb, ℤ, Ok}
 use Rattle.std.proofs.Common.{sym, ap, ◌∙◌}
 use Rattle.std.proofs.Math.Nat.{min-eq_left}
 use Rattle.rules.specs.declared.Limits.{Limits}
 use Rattle.rules.specs.declared.Sizes.{Sizes}
-use Rattle.rules.specs.declared.Verdict.TheVariants.{Sized}
 use Rattle.rules.specs.Problem.{cut, sizes, table_length, fault, need, judged, cut_refusal, verdict, problem_refusal}
 use Rattle.laws.specs.Faults.{need_holds, first_none}
 use Rattle.problem.specs.Measured.{Measured, measured, Within, within}
@@ -33,5 +32,5 @@ unfolding problem_refusal verdict
 accepted L least room ws {s} e u =
     let (a, b) = first_none (cut_refusal L least ws) (need (room (sizes (cut ws))) 9 (fault (cut ws))) e in
     let (r, f) = need_holds (room (sizes (cut ws))) 8 (fault (cut ws)) b in
-    let v : Sized s ≡ verdict L least ws = ap Sized u ∙ sym (ap (λ (k : ℕ). judged k (sizes (cut ws))) a) in
+    let v : Ok s ≡ verdict L least ws = ap Ok u ∙ sym (ap (λ (k : ℕ). judged k (sizes (cut ws))) a) in
     record { measures = measured L least ws s v; bounds = within L least ws s v; has_room = rw u r; faultless = f }

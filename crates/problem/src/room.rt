@@ -1,24 +1,18 @@
 // The refusals of a problem, 1 to 9, which every call makes first.
-ghost use Rattle.std.specs.Prelude.{◌≡◌, ◌<◌, ◌^◌, min, length};
+ghost use Rattle.std.specs.Prelude.{◌≡◌, ◌<◌, ◌^◌, length};
 ghost use Rattle.rules.specs.Problem.{cut, sizes, node_count, judged, problem_refusal};
 ghost use Rattle.problem.specs.Room.{room, served};
 
 use crate::check;
 use crate::fault::first_fault;
-use rules::{Limits, Sizes, Verdict};
-
-pub fn shorter(a: usize, b: usize) -> usize
-    ensures { result ≡ min a b }
-{
-    if a <= b { a } else { b }
-}
+use rules::{Limits, Sizes};
 
 // The limits, where no more than `marks` items can be marked.
 fn served(limits: Limits, marks: usize) -> Limits
     ensures { result ≡ served limits marks }
 {
     Limits {
-        items: shorter(limits.items, marks),
+        items: limits.items.min(marks),
         options: limits.options,
         entries: limits.entries,
     }
@@ -32,17 +26,12 @@ fn has_room(s: Sizes, tables: usize, lists: usize) -> bool
 {
     let n = s.np + s.ns + 2;
     let nodes = n + s.entries + s.kept;
-    if tables / 4 < nodes {
-        return false;
-    }
-    if tables - 4 * nodes < 2 * n {
-        return false;
-    }
-    s.np <= lists
+    nodes <= tables / 4 && 2 * n <= tables - 4 * nodes && s.np <= lists
 }
 
 // Refusals 1 to 9, or the sizes. The shortest lent table has `tables` words, the shortest lent list `lists`. `marks` is lent to work in, one for
 // each item: where there are fewer than the limit, they are the limit.
+#[tactic(auto, using(crate::proofs::RoomLaws::room_laws))]
 pub fn accept(
     problem: &[i32],
     limits: Limits,
@@ -50,19 +39,13 @@ pub fn accept(
     tables: usize,
     lists: usize,
     marks: &mut [usize],
-) -> Verdict
+) -> Result<Sizes, u32>
     ensures { result ≡ judged (problem_refusal (served limits (length marks.old)) least (room tables lists) problem.now) (sizes (cut problem.now)) }
 {
-    let v = check(problem, served(limits, marks.len()), least);
-    let Verdict::Sized(s) = v else {
-        return v;
-    };
+    let s = check(problem, served(limits, marks.len()), least)?;
     if !has_room(s, tables, lists) {
-        return Verdict::Refused(9);
+        return Err(9);
     }
-    let f = first_fault(problem, s, marks);
-    if f != 0 {
-        return Verdict::Refused(f);
-    }
-    Verdict::Sized(s)
+    first_fault(problem, s, marks)?;
+    Ok(s)
 }

@@ -1,8 +1,8 @@
 // Document 01's number and values for each answer.
-ghost use Rattle.rules.specs.Calls.{set_up_said, next_said, give_up_said};
+ghost use Rattle.rules.specs.Calls.{next_said, state_said};
 ghost use Rattle.replay.specs.Answers.{Says};
 
-use rules::{GiveUpAnswer, NextAnswer, Phase, SetUpAnswer, State};
+use rules::{NextAnswer, Phase, Refused, State};
 
 #[derive(Clone, Copy)]
 pub struct Said {
@@ -11,67 +11,51 @@ pub struct Said {
     pub state: State,
 }
 
-pub fn set_up_said(answer: SetUpAnswer) -> Said
-    ensures { Says result (set_up_said answer) }
-{
-    match answer {
-        SetUpAnswer::SetUp(state) => Said {
-            number: 0,
-            visits: 0,
-            state,
-        },
-        SetUpAnswer::Refused(state, number) => Said {
-            number,
-            visits: 0,
-            state,
-        },
+// Of Set-up and of Give-up.
+impl From<Result<State, Refused>> for Said {
+    ghost from_gives = { λ answer said. Says said (state_said answer) };
+
+    fn from(answer: Result<State, Refused>) -> Said {
+        match answer {
+            Ok(state) => Said {
+                number: 0,
+                visits: 0,
+                state,
+            },
+            Err(Refused { state, number }) => Said {
+                number,
+                visits: 0,
+                state,
+            },
+        }
     }
 }
 
-pub fn next_said(answer: NextAnswer) -> Said
-    ensures { Says result (next_said answer) }
-{
-    match answer {
-        NextAnswer::Solution(state, visits) => Said {
-            number: 0,
-            visits,
-            state,
-        },
-        NextAnswer::Exhausted(state, visits) => Said {
-            number: 20,
-            visits,
-            state,
-        },
-        NextAnswer::Paused(state, visits) => Said {
-            number: 21,
-            visits,
-            state,
-        },
-        NextAnswer::Refused(state, number) => Said {
-            number,
-            visits: 0,
-            state,
-        },
+// Of Next.
+impl From<Result<NextAnswer, Refused>> for Said {
+    ghost from_gives = { λ answer said. Says said (next_said answer) };
+
+    fn from(answer: Result<NextAnswer, Refused>) -> Said {
+        match answer {
+            Ok(
+                walk @ (NextAnswer::Solution(state, visits)
+                | NextAnswer::Exhausted(state, visits)
+                | NextAnswer::Paused(state, visits)),
+            ) => Said {
+                number: walk.number(),
+                visits,
+                state,
+            },
+            Err(Refused { state, number }) => Said {
+                number,
+                visits: 0,
+                state,
+            },
+        }
     }
 }
 
-pub fn give_up_said(answer: GiveUpAnswer) -> Said
-    ensures { Says result (give_up_said answer) }
-{
-    match answer {
-        GiveUpAnswer::GivenUp(state) => Said {
-            number: 0,
-            visits: 0,
-            state,
-        },
-        GiveUpAnswer::Refused(state, number) => Said {
-            number,
-            visits: 0,
-            state,
-        },
-    }
-}
-
+// The lines' numbers: `Phase` is a type of `rules`, where it has none.
 pub fn phase_number(phase: Phase) -> u64 {
     match phase {
         Phase::Ready => 0,

@@ -1,152 +1,83 @@
 // The lines that run a public call on the lists as lent, and print: `u`, `n`, `g` and `r`.
-ghost use Rattle.replay.specs.Bounds.{Buffer, DoneWithin};
-
-use crate::answers::{Said, give_up_said, next_said, phase_number, set_up_said};
-use crate::line::{Operand, number_at};
-use crate::output::{put_counts, put_number, put_words};
-use crate::settings::store;
-use decimal::Number;
-use rules::State;
-
-// The state after a line, and how many bytes of output wait.
-#[derive(Clone, Copy)]
-pub enum Done {
-    Went(State, usize),
-    Bad,
-}
-
-#[derive(Clone, Copy)]
-pub enum Called {
-    Said(Said),
-    Bad,
-}
-
-// The letter of a line, or 0 where it has none.
-pub fn letter_of(line: &[u8]) -> u8 {
-    if line.len() == 0 {
-        return 0;
-    }
-    line[0]
-}
-
-// The letter of a line that has nothing else, or 0.
-fn only_letter(line: &[u8]) -> u8 {
-    if line.len() == 1 {
-        return line[0];
-    }
-    0
-}
+use crate::answers::{Said, phase_number};
+use crate::lent::Lent;
+use crate::line::Operands;
+use crate::output::Output;
 
 // The allowance of a line `n A`.
-fn allowance(line: &[u8]) -> Number {
-    if letter_of(line) != b'n' {
-        return Number::Bad;
-    }
-    match number_at(line, 1, 18446744073709551615) {
-        Operand::Is(value, end) => {
-            if end == line.len() {
-                Number::Is(value)
-            } else {
-                Number::Bad
-            }
-        }
-        Operand::Bad => Number::Bad,
-    }
+fn allowance(mut operands: Operands<'_>) -> Option<u64> {
+    let visits = operands.number(u64::MAX)?;
+    operands.end()?;
+    Some(visits)
 }
 
-fn call(
-    line: &[u8],
-    problem: &[i32],
-    table: &mut [i32],
-    spare: &mut [i32],
-    path: &mut [i32],
-    profile: &mut [u64],
-    found: &mut [i32],
-    state: State,
-) -> Called {
-    let letter = only_letter(line);
-    if letter == b'u' {
-        return Called::Said(set_up_said(calls::set_up(problem, table, path, profile)));
-    }
-    if letter == b'g' {
-        return Called::Said(give_up_said(calls::give_up(problem, table, spare, path, state)));
-    }
-    match allowance(line) {
-        Number::Is(visits) => {
-            let answer = calls::next(problem, table, spare, path, profile, found, state, visits);
-            Called::Said(next_said(answer))
-        }
-        Number::Bad => Called::Bad,
-    }
+fn next(lent: &mut Lent, allowance: u64) -> Said {
+    Said::from(calls::next(
+        lent.problem.as_slice(),
+        lent.table.as_mut_slice(),
+        lent.spare.as_mut_slice(),
+        lent.path.as_mut_slice(),
+        lent.profile.as_mut_slice(),
+        lent.found.as_mut_slice(),
+        lent.state,
+        allowance,
+    ))
 }
 
-// `ANSWER VISITS PHASE DEPTH UPDATES`
-fn put_said(rt: &HostRuntime, out: &mut [u8], used: usize, said: Said) -> usize
-    requires { Buffer out.old used }
-    ensures { Buffer out.new result }
-{
+fn set_up(lent: &mut Lent) -> Said {
+    Said::from(calls::set_up(
+        lent.problem.as_slice(),
+        lent.table.as_mut_slice(),
+        lent.path.as_mut_slice(),
+        lent.profile.as_mut_slice(),
+    ))
+}
+
+fn give_up(lent: &mut Lent) -> Said {
+    Said::from(calls::give_up(
+        lent.problem.as_slice(),
+        lent.table.as_mut_slice(),
+        lent.spare.as_mut_slice(),
+        lent.path.as_mut_slice(),
+        lent.state,
+    ))
+}
+
+// `ANSWER VISITS PHASE DEPTH UPDATES`, and a line for each list.
+fn answer(lent: &mut Lent, said: Said, out: &mut Output<'_>) {
+    lent.state = said.state;
     let state = said.state;
-    let phase = state.phase;
-    let end = put_number(rt, out, used, said.number as u64, b' ');
-    let end = put_number(rt, out, end, said.visits, b' ');
-    let end = put_number(rt, out, end, phase_number(phase), b' ');
-    let end = put_number(rt, out, end, state.depth as u64, b' ');
-    put_number(rt, out, end, state.updates, b'\n')
+    out.put_figure(u64::from(said.number), b' ');
+    out.put_figure(said.visits, b' ');
+    out.put_figure(phase_number(state.phase), b' ');
+    out.put_figure(u64::from(state.depth), b' ');
+    out.put_figure(state.updates, b'\n');
+    out.put_list(lent.table.as_slice());
+    out.put_list(lent.spare.as_slice());
+    out.put_list(lent.path.as_slice());
+    out.put_list(lent.profile.as_slice());
+    out.put_list(lent.found.as_slice());
 }
 
-// A line for each list.
-fn put_lists(
-    rt: &HostRuntime,
-    out: &mut [u8],
-    used: usize,
-    table: &[i32],
-    spare: &[i32],
-    path: &[i32],
-    profile: &[u64],
-    found: &[i32],
-) -> usize
-    requires { Buffer out.old used }
-    ensures { Buffer out.new result }
-{
-    let end = put_words(rt, out, used, table);
-    let end = put_words(rt, out, end, spare);
-    let end = put_words(rt, out, end, path);
-    let end = put_counts(rt, out, end, profile);
-    put_words(rt, out, end, found)
-}
-
-// A line on the lists as lent.
-pub fn run(
-    rt: &HostRuntime,
-    line: &[u8],
-    problem: &[i32],
-    table: &mut [i32],
-    spare: &mut [i32],
-    path: &mut [i32],
-    profile: &mut [u64],
-    found: &mut [i32],
-    state: State,
-    out: &mut [u8],
-    used: usize,
-) -> Done
-    requires { Buffer out.old used }
-    ensures { DoneWithin out.new result }
-{
-    if letter_of(line) == b'w' {
-        if store(line, table, spare, path, profile, found) {
-            return Done::Went(state, used);
+// Runs a line, if it is a command.
+pub fn run(line: &[u8], lent: &mut Lent, out: &mut Output<'_>) -> Option<()> {
+    match line {
+        [b'p', rest @ ..] => return lent.set_problem(Operands::new(rest)),
+        [b'l', rest @ ..] => return lent.set_lengths(Operands::new(rest)),
+        [b's', rest @ ..] => return lent.set_state(Operands::new(rest)),
+        [b'w', rest @ ..] => return lent.set_figure(Operands::new(rest)),
+        [b'r'] => {
+            out.put_list(calls::report(lent.found.as_slice(), lent.state));
+            return Some(());
         }
-        return Done::Bad;
+        _ => {}
     }
-    if only_letter(line) == b'r' {
-        let end = put_words(rt, out, used, calls::report(found, state));
-        return Done::Went(state, end);
-    }
-    let Called::Said(said) = call(line, problem, table, spare, path, profile, found, state) else {
-        return Done::Bad;
+    let said = match line {
+        [b'u'] => set_up(lent),
+        [b'g'] => give_up(lent),
+        [b'n', rest @ ..] => next(lent, allowance(Operands::new(rest))?),
+        _ => return None,
     };
-    let after = said.state;
-    let end = put_said(rt, out, used, said);
-    let end = put_lists(rt, out, end, table, spare, path, profile, found);
-    Done::Went(after, end)
+    answer(lent, said, out);
+    Some(())
 }

@@ -1,74 +1,45 @@
-// A line's operands: decimal numbers, each after one space.
-ghost use Rattle.std.specs.Prelude.{ℕ, ◌≡◌, ◌≢◌, ◌<◌, ◌≤◌, length, get_or};
-ghost use Rattle.replay.specs.Bounds.{AtMost, GoesOn};
+// The operands of a line: texts, each after one space.
+ghost use Rattle.std.specs.Prelude.{◌+◌, ◌≤◌, length, IfSome};
 
-use decimal::Number;
-
-// A number, and where the line goes on.
-#[derive(Clone, Copy)]
-pub enum Operand {
-    Is(u64, usize),
-    Bad,
+// What is left of a line.
+#[derive(Drop)]
+pub struct Operands<'a> {
+    rest: &'a [u8],
 }
 
-// Where the line goes on after a word.
-#[derive(Clone, Copy)]
-pub enum Place {
-    At(usize),
-    Bad,
-}
+impl<'a> Operands<'a> {
+    // All of what stands after a line's letter.
+    pub fn new(rest: &'a [u8]) -> Self {
+        Operands { rest }
+    }
 
-// The first place from `from` on that holds the byte, or the end.
-pub fn find(bytes: &[u8], from: usize, byte: u8) -> usize
-    requires { from ≤ length bytes.now }
-    ensures from_on { from ≤ result }
-    ensures in_bounds { result ≤ length bytes.now }
-    ensures none_before { (k : ℕ) → from ≤ k → k < result → get_or bytes.now k 0 ≢ byte }
-    ensures found { result < length bytes.now → get_or bytes.now result 0 ≡ byte }
-{
-    let mut at = from;
-    while at < bytes.len() {
-        if bytes[at] == byte {
-            return at;
-        }
-        at += 1;
+    // The text after a space, up to the next one or the end.
+    pub fn text(&mut self) -> Option<&'a [u8]>
+        ensures { IfSome result (λ text. length self.new.rest.now + 1 ≤ length self.old.rest.now) }
+    {
+        let after = self.rest.strip_prefix(b" ")?;
+        let end = after
+            .iter()
+            .position(|byte| *byte == b' ')
+            .unwrap_or(after.len());
+        let (text, rest) = after.split_at(end);
+        self.rest = rest;
+        Some(text)
     }
-    at
-}
 
-// The number, at most `most`, after the space at `at`.
-pub fn number_at(line: &[u8], at: usize, most: u64) -> Operand
-    ensures { AtMost most result }
-{
-    if line.len() <= at {
-        return Operand::Bad;
+    // A number of at most `most`.
+    pub fn number(&mut self, most: u64) -> Option<u64>
+        ensures { IfSome result (λ n. n ≤ most) }
+    {
+        decimal::read_unsigned(self.text()?, most)
     }
-    if line[at] != b' ' {
-        return Operand::Bad;
-    }
-    let start = at + 1;
-    let end = find(line, start, b' ');
-    match decimal::read_unsigned(&line[start..end], most) {
-        Number::Is(value) => Operand::Is(value, end),
-        Number::Bad => Operand::Bad,
-    }
-}
 
-// Writes the signed word after the space at `at` at a place of the list.
-pub fn word_at(line: &[u8], at: usize, list: &mut [i32], place: usize) -> Place
-    requires { place < length list.old }
-    ensures { GoesOn at (length line.now) result }
-{
-    if line.len() <= at {
-        return Place::Bad;
+    pub fn is_empty(&self) -> bool {
+        self.rest.is_empty()
     }
-    if line[at] != b' ' {
-        return Place::Bad;
+
+    // That the line ends here.
+    pub fn end(&self) -> Option<()> {
+        if self.rest.is_empty() { Some(()) } else { None }
     }
-    let start = at + 1;
-    let end = find(line, start, b' ');
-    if decimal::read_word(&line[start..end], list, place) {
-        return Place::At(end);
-    }
-    Place::Bad
 }

@@ -1,15 +1,12 @@
 -- The public calls, as functions of all that is passed and lent: the answer, which carries the state, and every lent word left behind.
-use Rattle.std.specs.Prelude.{Bool, true, false, ◌&&◌, cond, List, [], ◌∷◌, ◌++◌, map, ℕ, zero, suc, ◌+◌, ◌-◌, min, eqb, leb, ℤ, pos, negsuc, length, replicate, take, drop}
-use Rattle.std.proofs.Math.Option.{Option, none, some}
+use Rattle.std.specs.Prelude.{Bool, true, false, ◌&&◌, cond, List, [], ◌∷◌, ◌++◌, map, ℕ, zero, suc, ◌+◌, ◌-◌, min, eqb}
+use Rattle.std.specs.Prelude.{leb, ℤ, pos, negsuc, length, replicate, take, drop, Option, None, Some, Result, Ok, Err}
 use Rattle.rules.specs.declared.Phase.{Phase}
 use Rattle.rules.specs.declared.Phase.TheVariants.{Ready, Solution, Done}
 use Rattle.rules.specs.declared.State.{State}
-use Rattle.rules.specs.declared.SetUpAnswer.{SetUpAnswer}
-use Rattle.rules.specs.declared.SetUpAnswer.TheVariants as SetUpSays
+use Rattle.rules.specs.declared.Refused.{Refused}
 use Rattle.rules.specs.declared.NextAnswer.{NextAnswer}
 use Rattle.rules.specs.declared.NextAnswer.TheVariants as NextSays
-use Rattle.rules.specs.declared.GiveUpAnswer.{GiveUpAnswer}
-use Rattle.rules.specs.declared.GiveUpAnswer.TheVariants as GiveUpSays
 use Rattle.rules.specs.declared.Limits.{Limits}
 use Rattle.rules.specs.declared.Sizes.{Sizes}
 use Rattle.rules.specs.Lists.{each, tally, over, when, got}
@@ -74,19 +71,19 @@ started st = started_in st.phase st
 
 -- the level at which the choice of node q is tried
 unfoldable pub level_of : ℕ → List Choice → Option Level
-level_of q [] = none
-level_of q (c ∷ cs) = cond (eqb (node c) q) (some (record { tried = c; left = cs })) (level_of q cs)
+level_of q [] = None
+level_of q (c ∷ cs) = cond (eqb (node c) q) (Some (record { tried = c; left = cs })) (level_of q cs)
 
 abbrev pub deeper : Option Level → List Level → (List Level → Option (List Level)) → Option (List Level)
-deeper none s k = none
-deeper (some v) s k = k (v ∷ s)
+deeper None s k = None
+deeper (Some v) s k = k (v ∷ s)
 
 -- "Ready asks an uncovered primary item, at a solution asks none"
 abbrev pub phase_fits : Phase → Option ℕ → Bool
-phase_fits Ready (some i) = true
-phase_fits Ready none = false
-phase_fits Solution (some i) = false
-phase_fits Solution none = true
+phase_fits Ready (Some i) = true
+phase_fits Ready None = false
+phase_fits Solution (Some i) = false
+phase_fits Solution None = true
 phase_fits Done i = true
 
 -- "depth 0 to np"; "done asks depth 0"
@@ -97,19 +94,19 @@ depth_fits Done np d = eqb d 0
 
 module _ (P : Problem) (rule : Rule) where
   abbrev pub taken : Option ℕ → List Level → ℕ → Option Level
-  taken none s q = none
-  taken (some i) s q = level_of q (choices i (open_options P (chosen s)))
+  taken None s q = None
+  taken (Some i) s q = level_of q (choices i (open_options P (chosen s)))
 
   -- the levels of a path below the point s: "each path node is in the item that the order rule takes there, in an option agreeing with those
   -- above"
   unfoldable pub levels : List ℤ → List Level → Option (List Level)
-  levels [] s = some s
-  levels (negsuc k ∷ qs) s = none
+  levels [] s = Some s
+  levels (negsuc k ∷ qs) s = None
   levels (pos q ∷ qs) s = deeper (taken (rule (chosen s)) s q) s (λ t. levels qs t)
 
   abbrev pub in_phase : Phase → Option (List Level) → Option (List Level)
-  in_phase ph none = none
-  in_phase ph (some s) = when (phase_fits ph (rule (chosen s))) (some s)
+  in_phase ph None = None
+  in_phase ph (Some s) = when (phase_fits ph (rule (chosen s))) (Some s)
 
   -- The first half of the test for 10, with no table: the levels that phase, depth and the np path words say. "path words past depth are 0"
   unfoldable pub path_point : State → List ℤ → Option (List Level)
@@ -119,16 +116,16 @@ module _ (P : Problem) (rule : Rule) where
 
   -- the second half: "the table equals set-up with those choices made"
   abbrev pub in_table : List ℤ → Option (List Level) → Option (List Level)
-  in_table t none = none
-  in_table t (some s) = when (same_words t (table P (made s))) (some s)
+  in_table t None = None
+  in_table t (Some s) = when (same_words t (table P (made s))) (Some s)
 
   -- the point that state, table and path are, if they are one
   unfoldable pub point : State → List ℤ → List ℤ → Option (List Level)
   point st t path = in_table t (path_point st path)
 
 abbrev pub levels_or_top : Option (List Level) → List Level
-levels_or_top none = []
-levels_or_top (some s) = s
+levels_or_top None = []
+levels_or_top (Some s) = s
 
 -- ---- what the calls share
 
@@ -164,11 +161,26 @@ end_number solution = 0
 end_number exhausted = 20
 end_number paused = 21
 
--- ---- Set-up
+abbrev pub refused_said : Refused → Said
+refused_said r = record { number = r.number; visits = 0; state = r.state }
 
-abbrev pub set_up_said : SetUpAnswer → Said
-set_up_said (SetUpSays.SetUp st) = record { number = 0; visits = 0; state = st }
-set_up_said (SetUpSays.Refused st k) = record { number = k; visits = 0; state = st }
+-- of Set-up and of Give-up
+abbrev pub state_said : Result State Refused → Said
+state_said (Ok st) = record { number = 0; visits = 0; state = st }
+state_said (Err r) = refused_said r
+
+-- of a walk
+abbrev pub walk_said : NextAnswer → Said
+walk_said (NextSays.Solution st v) = record { number = end_number solution; visits = v; state = st }
+walk_said (NextSays.Exhausted st v) = record { number = end_number exhausted; visits = v; state = st }
+walk_said (NextSays.Paused st v) = record { number = end_number paused; visits = v; state = st }
+
+-- of Next
+abbrev pub next_said : Result NextAnswer Refused → Said
+next_said (Ok a) = walk_said a
+next_said (Err r) = refused_said r
+
+-- ---- Set-up
 
 pub record SetUpLent : Type 0 where
   pub table : List ℤ
@@ -176,7 +188,7 @@ pub record SetUpLent : Type 0 where
   pub profile : List ℕ
 
 pub record SetUpOutcome : Type 0 where
-  pub answer : SetUpAnswer
+  pub answer : Result State Refused
   pub lent : SetUpLent
 
 unfoldable pub set_up_room : SetUpLent → Sizes → Bool
@@ -184,9 +196,9 @@ set_up_room l s = leb (table_length s) (length l.table) && leb s.np (length l.pa
 
 -- "Set-up writes table, path and profile"; "set-up's refusal .. returns a ready state of zeros"
 abbrev pub set_up_as : ℕ → Problem → SetUpLent → SetUpOutcome
-set_up_as (suc k) P l = record { answer = SetUpSays.Refused blank (suc k); lent = l }
+set_up_as (suc k) P l = record { answer = Err (record { state = blank; number = suc k }); lent = l }
 set_up_as zero P l = record {
-  answer = SetUpSays.SetUp blank;
+  answer = Ok blank;
   lent = record {
     table = over (fresh P) l.table;
     path = over (path_words P.np []) l.path;
@@ -203,12 +215,6 @@ set_up_call L ws l = set_up_as (set_up_refusal L ws l) (meant (cut ws)) l
 
 -- ---- Next
 
-abbrev pub next_said : NextAnswer → Said
-next_said (NextSays.Solution st v) = record { number = end_number solution; visits = v; state = st }
-next_said (NextSays.Exhausted st v) = record { number = end_number exhausted; visits = v; state = st }
-next_said (NextSays.Paused st v) = record { number = end_number paused; visits = v; state = st }
-next_said (NextSays.Refused st k) = record { number = k; visits = 0; state = st }
-
 pub record NextLent : Type 0 where
   pub table : List ℤ
   pub spare : List ℤ
@@ -217,7 +223,7 @@ pub record NextLent : Type 0 where
   pub found : List ℤ
 
 pub record NextOutcome : Type 0 where
-  pub answer : NextAnswer
+  pub answer : Result NextAnswer Refused
   pub lent : NextLent
 
 unfoldable pub next_room : NextLent → Sizes → Bool
@@ -243,7 +249,7 @@ found_words paused s old = old
 -- what a walk from an accepted point leaves
 abbrev pub walked : Problem → NextLent → State → Walk → NextOutcome
 walked P l st w = record {
-  answer = next_answer w.end (moved (started st) w) (length w.visited);
+  answer = Ok (next_answer w.end (moved (started st) w) (length w.visited));
   lent = record {
     table = over (table P (made w.at)) l.table;
     spare = over (fresh P) l.spare;
@@ -256,7 +262,7 @@ walked P l st w = record {
 -- "A refusal returns its number and the state it was given"
 abbrev pub next_as : ℕ → Problem → NextLent → State → Option (List Level) → ℕ → NextOutcome
 next_as (suc k) P l st at a = record {
-  answer = NextSays.Refused st (suc k);
+  answer = Err (record { state = st; number = suc k });
   lent = record {
     table = l.table;
     spare = spare_after (suc k) P l.spare;
@@ -279,17 +285,13 @@ next_call L ws l st a =
 
 -- ---- Give-up
 
-abbrev pub give_up_said : GiveUpAnswer → Said
-give_up_said (GiveUpSays.GivenUp st) = record { number = 0; visits = 0; state = st }
-give_up_said (GiveUpSays.Refused st k) = record { number = k; visits = 0; state = st }
-
 pub record GiveUpLent : Type 0 where
   pub table : List ℤ
   pub spare : List ℤ
   pub path : List ℤ
 
 pub record GiveUpOutcome : Type 0 where
-  pub answer : GiveUpAnswer
+  pub answer : Result State Refused
   pub lent : GiveUpLent
 
 unfoldable pub give_up_room : GiveUpLent → Sizes → Bool
@@ -299,11 +301,11 @@ give_up_room l s =
 -- "undoes all choices, clears the path"
 abbrev pub give_up_as : ℕ → Problem → GiveUpLent → State → GiveUpOutcome
 give_up_as (suc k) P l st = record {
-  answer = GiveUpSays.Refused st (suc k);
+  answer = Err (record { state = st; number = suc k });
   lent = record { table = l.table; spare = spare_after (suc k) P l.spare; path = l.path };
 }
 give_up_as zero P l st = record {
-  answer = GiveUpSays.GivenUp (given_up st);
+  answer = Ok (given_up st);
   lent = record {
     table = over (fresh P) l.table;
     spare = over (fresh P) l.spare;

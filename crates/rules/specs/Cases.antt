@@ -1,7 +1,6 @@
 -- Document 01's examples P1 to P12, by the calls and at the host door, as one list of data, and the theorem that the
 -- outcome functions give what it says.
-use Rattle.std.specs.Prelude.{◌≡◌, refl, Bool, true, false, ◌&&◌, List, [], ◌∷◌, ◌++◌, map, ℕ, zero, suc, ◌+◌, ◌*◌, eqb, ℤ, pos, negsuc, length, replicate, take, drop}
-use Rattle.std.proofs.Math.Option.{Option, none, some}
+use Rattle.std.specs.Prelude.{◌≡◌, refl, Bool, true, false, ◌&&◌, List, [], ◌∷◌, ◌++◌, map, ℕ, zero, suc, ◌+◌, ◌*◌, eqb, ℤ, pos, negsuc, length, replicate, take, drop, Option, None, Some}
 use Rattle.rules.specs.declared.Phase.{Phase}
 use Rattle.rules.specs.declared.Phase.TheVariants.{Ready, Solution, Done}
 use Rattle.rules.specs.declared.State.{State}
@@ -19,7 +18,8 @@ use Rattle.rules.specs.Problem.{Cut, Problem, library_limits, cut, meant, sizes,
 use Rattle.rules.specs.Order.{pick}
 use Rattle.rules.specs.Links.{fresh}
 use Rattle.rules.specs.Walk.{Level, End, solution, exhausted, paused, numbers}
-use Rattle.rules.specs.Calls.{Said, SetUpLent, SetUpOutcome, set_up_call, set_up_said, NextLent, NextOutcome, next_call, next_said, end_number, phase_after, levels, report_call}
+use Rattle.rules.specs.Calls.{Said, SetUpLent, SetUpOutcome, set_up_call, state_said, NextLent, NextOutcome, next_call}
+use Rattle.rules.specs.Calls.{next_said, end_number, phase_after, levels, report_call}
 
 -- ---- the cases
 
@@ -188,8 +188,8 @@ abbrev same_state : State → Phase → ℕ → ℕ → Bool
 same_state st ph d u = same_phase st.phase ph && eqb st.depth d && eqb st.updates u
 
 abbrev on_path : Option (List Level) → List ℕ
-on_path none = []
-on_path (some s) = numbers s
+on_path None = []
+on_path (Some s) = numbers s
 
 -- what Report hands back
 abbrev reported : End → List ℕ → List ℤ
@@ -246,8 +246,8 @@ next_lent C l = record {
 
 abbrev set_up_is : Cut → SetUpOutcome → ℕ → List ℤ → List ℤ → List ℤ → Bool
 set_up_is C o k t p f =
-    eqb (set_up_said o.answer).number k
-    && same_state (set_up_said o.answer).state Ready 0 0
+    eqb (state_said o.answer).number k
+    && same_state (state_said o.answer).state Ready 0 0
     && holds_words o.lent.table t
     && holds_words o.lent.path p
     && holds_words (counts o.lent.profile) f
@@ -256,7 +256,7 @@ unfoldable pub holds : Case → Bool
 holds (calls ns cs) =
     let C : Cut = cut (counts ns) in
     let o : SetUpOutcome = set_up_call library_limits (counts ns) (blank_lent C) in
-    as_calls C (counts ns) (set_up_said o.answer).state (next_lent C o.lent) cs
+    as_calls C (counts ns) (state_said o.answer).state (next_lent C o.lent) cs
 holds (sets_up ns t) =
     let C : Cut = cut (counts ns) in
     let zeros : List ℤ = replicate C.np (pos 0) in

@@ -1,6 +1,5 @@
 -- What the program `cover` prints of the text that it reads.
-use Rattle.std.specs.Prelude.{true, cond, List, [], ◌∷◌, ◌++◌, ℕ, zero, suc, ◌+◌, ◌/◌, ◌%◌, ltb, leb, ℤ, length}
-use Rattle.std.proofs.Math.Option.{Option, none, some}
+use Rattle.std.specs.Prelude.{true, cond, List, [], ◌∷◌, ◌++◌, ℕ, zero, suc, ◌+◌, ◌/◌, ◌%◌, ltb, leb, ℤ, length, Option, None, Some}
 use Rattle.rules.specs.Lists.{flat}
 use Rattle.rules.specs.Problem.{Problem, door_limits, cut, meant, problem_refusal}
 use Rattle.rules.specs.Order.{pick}
@@ -40,8 +39,8 @@ open_as zero ws = accepted ws
 open_as (suc k) ws = refused (suc k ∷ [])
 
 abbrev pub open_words : Option (List ℤ) → Opened
-open_words none = refused (13 ∷ 0 ∷ [])
-open_words (some ws) = open_as (problem_refusal door_limits 1 (λ s. true) ws) ws
+open_words None = refused (13 ∷ 0 ∷ [])
+open_words (Some ws) = open_as (problem_refusal door_limits 1 (λ s. true) ws) ws
 
 abbrev pub open_lines : ℕ → Option (List ℤ) → Opened
 open_lines (suc k) new = refused (13 ∷ suc k ∷ [])
@@ -51,7 +50,7 @@ open_lines zero new = open_words new
 unfoldable pub opened : List ℕ → Opened
 opened text =
     cond (leb (length text) 65536)
-    (open_lines (first_bad true 1 none (lines text)) (words_of true (stated (lines text))))
+    (open_lines (first_bad true 1 None (lines text)) (words_of true (stated (lines text))))
     (refused (3 ∷ []))
 
 -- "prints every solution"

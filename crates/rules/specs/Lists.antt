@@ -1,6 +1,5 @@
 -- Lists with tests that compute, and what is made of a test.
-use Rattle.std.specs.Prelude.{Bool, true, false, ◌&&◌, ◌||◌, List, [], ◌∷◌, ◌++◌, ℕ, zero, suc, ◌+◌, length, drop}
-use Rattle.std.proofs.Math.Option.{Option, none, some}
+use Rattle.std.specs.Prelude.{Bool, true, false, ◌&&◌, ◌||◌, List, [], ◌∷◌, ◌++◌, ℕ, zero, suc, ◌+◌, length, drop, Option, None, Some}
 
 module _ {A : Type 0} where
   -- x in front of r where the test holds
@@ -28,15 +27,15 @@ module _ {A : Type 0} where
   -- r where the test holds
   abbrev pub when : Bool → Option A → Option A
   when true r = r
-  when false r = none
+  when false r = None
 
   abbrev pub got : Option A → Bool
-  got none = false
-  got (some a) = true
+  got None = false
+  got (Some a) = true
 
   abbrev pub or_none : Option (List A) → List A
-  or_none none = []
-  or_none (some l) = l
+  or_none None = []
+  or_none (Some l) = l
 
 -- 1 where the test holds
 abbrev pub one_if : Bool → ℕ

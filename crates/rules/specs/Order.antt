@@ -1,6 +1,5 @@
 -- The order of the search: the kept options and their nodes, those still open, an item's count, the item taken.
-use Rattle.std.specs.Prelude.{Bool, true, false, not, ◌&&◌, ◌||◌, cond, List, [], ◌∷◌, map, ℕ, suc, ◌+◌, eqb, ltb, length}
-use Rattle.std.proofs.Math.Option.{Option, none, some}
+use Rattle.std.specs.Prelude.{Bool, true, false, not, ◌&&◌, ◌||◌, cond, List, [], ◌∷◌, map, ℕ, suc, ◌+◌, eqb, ltb, length, Option, None, Some}
 use Rattle.rules.specs.Lists.{also, keep, each, has, run}
 use Rattle.rules.specs.Problem.{Entry, Problem, items}
 
@@ -86,8 +85,8 @@ least_from a [] = a
 least_from a (b ∷ rest) = least_from (lighter a b) rest
 
 abbrev pub least : List Weighed → Option ℕ
-least [] = none
-least (a ∷ rest) = some (least_from a rest).item
+least [] = None
+least (a ∷ rest) = Some (least_from a rest).item
 
 -- An order rule: the item taken where these options are chosen, or none where every primary item is covered.
 abbrev pub Rule : Type 0

@@ -1,11 +1,9 @@
 -- The problem words, what they mean, and the refusals 1 to 9 in document 01's order of test.
-use Rattle.std.specs.Prelude.{Bool, true, false, not, ◌&&◌, ◌||◌, List, [], ◌∷◌, map, ℕ, zero, suc, ◌+◌, ◌*◌, leb, ℤ, pos, negsuc, length, drop}
-use Rattle.std.proofs.Math.Option.{Option, none, some}
+use Rattle.std.specs.Prelude.{Bool, true, false, not, ◌&&◌, ◌||◌, List, [], ◌∷◌, map, ℕ, zero, suc, ◌+◌, ◌*◌, leb}
+use Rattle.std.specs.Prelude.{ℤ, pos, negsuc, length, drop, Option, None, Some, Result, Ok, Err}
 use Rattle.std.specs.Int.Signed.{le_z, non_neg}
 use Rattle.rules.specs.declared.Limits.{Limits}
 use Rattle.rules.specs.declared.Sizes.{Sizes}
-use Rattle.rules.specs.declared.Verdict.{Verdict}
-use Rattle.rules.specs.declared.Verdict.TheVariants.{Refused, Sized}
 use Rattle.rules.specs.Lists.{keep, has, tally, when, got, or_none}
 use Rattle.rules.specs.Words.{word, nat, below, same}
 
@@ -48,9 +46,9 @@ door_limits = record { items = 64; options = 64; entries = 256 }
 
 -- the entry count that an option's words begin with: it is not negative, and two words for each entry follow it
 unfoldable pub entry_count : List ℤ → Option ℕ
-entry_count [] = none
-entry_count (negsuc k ∷ ws) = none
-entry_count (pos k ∷ ws) = when (leb (2 * k) (length ws)) (some k)
+entry_count [] = None
+entry_count (negsuc k ∷ ws) = None
+entry_count (pos k ∷ ws) = when (leb (2 * k) (length ws)) (Some k)
 
 -- the first k pairs of words
 unfoldable pub pairs : ℕ → List ℤ → List Pair
@@ -60,18 +58,18 @@ pairs (suc k) (i ∷ []) = []
 pairs (suc k) (i ∷ c ∷ ws) = record { item = i; colour = c } ∷ pairs k ws
 
 abbrev pub with_option : List Pair → Option (List (List Pair)) → Option (List (List Pair))
-with_option o none = none
-with_option o (some os) = some (o ∷ os)
+with_option o None = None
+with_option o (Some os) = Some (o ∷ os)
 
 -- an option of k entries, and then what `later` cuts from the words after it
 abbrev pub then_cut : Option ℕ → List ℤ → (List ℤ → Option (List (List Pair))) → Option (List (List Pair))
-then_cut none ws later = none
-then_cut (some k) ws later = with_option (pairs k (drop 1 ws)) (later (drop (1 + 2 * k) ws))
+then_cut None ws later = None
+then_cut (Some k) ws later = with_option (pairs k (drop 1 ws)) (later (drop (1 + 2 * k) ws))
 
 -- "per option its entry count and that many pairs item, colour": m options, and no word left over
 unfoldable pub cut_options : ℕ → List ℤ → Option (List (List Pair))
-cut_options zero [] = some []
-cut_options zero (w ∷ ws) = none
+cut_options zero [] = Some []
+cut_options zero (w ∷ ws) = None
 cut_options (suc m) ws = then_cut (entry_count ws) ws (λ rest. cut_options m rest)
 
 -- "np, ns, number of options; then" the options, if the words are cut right
@@ -168,12 +166,12 @@ node_count s = s.np + s.ns + 2 + s.entries + s.kept
 abbrev pub table_length : Sizes → ℕ
 table_length s = 2 * (s.np + s.ns + 2) + 4 * node_count s
 
--- a refusal's number, or the sizes where it is 0
-abbrev pub judged : ℕ → Sizes → Verdict
-judged zero s = Sized s
-judged (suc k) s = Refused (suc k)
+-- a refusal, or x where its number is 0
+abbrev pub judged : {A : Type 0} → ℕ → A → Result A ℕ
+judged zero x = Ok x
+judged (suc k) x = Err (suc k)
 
-unfoldable pub verdict : Limits → ℕ → List ℤ → Verdict
+unfoldable pub verdict : Limits → ℕ → List ℤ → Result Sizes ℕ
 verdict L least ws = judged (cut_refusal L least ws) (sizes (cut ws))
 
 -- The refusals of a problem, which every call shares: the limits, the least number of options, and whether what the call is lent has room

@@ -1,8 +1,7 @@
 -- The text form of document 02's request 1: from bytes to problem words.
-use Rattle.std.specs.Prelude.{Bool, true, false, not, ◌&&◌, ◌||◌, cond, List, [], ◌∷◌, ◌++◌, map, ℕ, zero, suc, ◌+◌, eqb, leb, ℤ, pos, length}
-use Rattle.std.proofs.Math.Option.{Option, none, some}
-use Rattle.rules.specs.declared.Reading.{Reading}
-use Rattle.rules.specs.declared.Reading.TheVariants.{Words, Faulty, Refused}
+use Rattle.std.specs.Prelude.{Bool, true, false, not, ◌&&◌, ◌||◌, cond, List, [], ◌∷◌, ◌++◌, map, ℕ, zero, suc, ◌+◌, eqb, leb, ℤ, pos, length, Option, None, Some, Result, Ok, Err}
+use Rattle.rules.specs.declared.Unread.{Unread}
+use Rattle.rules.specs.declared.Unread.TheVariants.{Faulty, Refused}
 use Rattle.rules.specs.Lists.{keep, each, has, over, when, got, flat}
 use Rattle.rules.specs.Problem.{Entry}
 
@@ -118,12 +117,12 @@ pub record Written : Type 0 where
 
 -- "`name` or `name:c`", by the parts between its colons
 abbrev pub as_written : List (List ℕ) → Option Written
-as_written [] = none
-as_written (n ∷ []) = some (record { name = n; colour = 0 })
-as_written (n ∷ [] ∷ ps) = none
-as_written (n ∷ (c ∷ []) ∷ []) = some (record { name = n; colour = c })
-as_written (n ∷ (c ∷ []) ∷ p ∷ ps) = none
-as_written (n ∷ (c ∷ d ∷ s) ∷ ps) = none
+as_written [] = None
+as_written (n ∷ []) = Some (record { name = n; colour = 0 })
+as_written (n ∷ [] ∷ ps) = None
+as_written (n ∷ (c ∷ []) ∷ []) = Some (record { name = n; colour = c })
+as_written (n ∷ (c ∷ []) ∷ p ∷ ps) = None
+as_written (n ∷ (c ∷ d ∷ s) ∷ ps) = None
 
 unfoldable pub written : List ℕ → Option Written
 written t = as_written (split (λ b. eqb b 58) t)
@@ -138,25 +137,25 @@ name_of t = first_part (split (λ b. eqb b 58) t)
 
 -- where a name stands among others, counted from k
 unfoldable pub place : ℕ → List ℕ → List (List ℕ) → Option ℕ
-place k t [] = none
-place k t (n ∷ ns) = cond (same_name t n) (some k) (place (k + 1) t ns)
+place k t [] = None
+place k t (n ∷ ns) = cond (same_name t n) (Some k) (place (k + 1) t ns)
 
 abbrev pub entry : ℕ → ℕ → Entry
 entry i c = record { item = i; colour = c }
 
 -- a primary item has no colour
 abbrev pub in_primary : ℕ → Option ℕ → Option Entry → Option Entry
-in_primary c (some i) later = when (eqb c 0) (some (entry i c))
-in_primary c none later = later
+in_primary c (Some i) later = when (eqb c 0) (Some (entry i c))
+in_primary c None later = later
 
 abbrev pub in_secondary : ℕ → Option ℕ → Option Entry
-in_secondary c (some i) = some (entry i c)
-in_secondary c none = none
+in_secondary c (Some i) = Some (entry i c)
+in_secondary c None = None
 
 -- the entry that a token stands for, if it has no fault of its own
 abbrev pub as_entered : Items → Option Written → Option Entry
-as_entered I none = none
-as_entered I (some w) =
+as_entered I None = None
+as_entered I (Some w) =
     in_primary w.colour (place 0 w.name I.primary)
     (in_secondary w.colour (place (length I.primary) w.name I.secondary))
 
@@ -174,16 +173,16 @@ option_bad I (t ∷ ts) = not (got (entered I t)) || has (same_name (name_of t))
 -- whether a line is at fault, by what is known of the items: nothing before their line. One that is passed over is not.
 abbrev pub stated_bad : Bool → Option Items → List (List ℕ) → Bool
 stated_bad true known ts = false
-stated_bad false none ts = items_bad false ts
-stated_bad false (some I) ts = option_bad I ts
+stated_bad false None ts = items_bad false ts
+stated_bad false (Some I) ts = option_bad I ts
 
 abbrev pub line_bad : Option Items → List ℕ → Bool
 line_bad known line = not (each allowed line) || stated_bad (passed (tokens line)) known (tokens line)
 
 -- "first line primary names .. then one option a line"
 abbrev pub known_after : Bool → Option Items → List (List ℕ) → Option Items
-known_after front (some I) ts = some I
-known_after front none ts = when (not (passed ts)) (some (items_of front ts))
+known_after front (Some I) ts = Some I
+known_after front None ts = when (not (passed ts)) (Some (items_of front ts))
 
 -- "the number from 1 of the first faulty line", or 0: the first of the lines has the number k
 unfoldable pub first_bad : Bool → ℕ → Option Items → List (List ℕ) → ℕ
@@ -193,8 +192,8 @@ first_bad front k known (l ∷ ls) = cond (line_bad known l) k (first_bad front 
 -- ---- the words
 
 abbrev pub entry_words : Option Entry → List ℤ
-entry_words none = []
-entry_words (some e) = pos e.item ∷ pos e.colour ∷ []
+entry_words None = []
+entry_words (Some e) = pos e.item ∷ pos e.colour ∷ []
 
 unfoldable pub option_words : Items → List (List ℕ) → List ℤ
 option_words I ts = pos (length ts) ∷ flat (λ t. entry_words (entered I t)) ts
@@ -204,48 +203,48 @@ text_words I os = pos (length I.primary) ∷ pos (length I.secondary) ∷ pos (l
 
 -- the words of the lines that say something, none where "items or options are missing"
 abbrev pub words_of : Bool → List (List (List ℕ)) → Option (List ℤ)
-words_of front [] = none
-words_of front (i ∷ []) = none
-words_of front (i ∷ o ∷ os) = some (text_words (items_of front i) (o ∷ os))
+words_of front [] = None
+words_of front (i ∷ []) = None
+words_of front (i ∷ o ∷ os) = Some (text_words (items_of front i) (o ∷ os))
 
 -- ---- the reader
 
 -- The number and values of each answer: 0 and how many words were written; 13 and the line; else the refusal's number,
 -- 3 or 9, which has no value.
-abbrev pub read_said : Reading → List ℕ
-read_said (Words n) = 0 ∷ n ∷ []
-read_said (Faulty line) = 13 ∷ line ∷ []
-read_said (Refused k) = k ∷ []
+abbrev pub read_said : Result ℕ Unread → List ℕ
+read_said (Ok n) = 0 ∷ n ∷ []
+read_said (Err (Faulty line)) = 13 ∷ line ∷ []
+read_said (Err (Refused k)) = k ∷ []
 
 pub record ReadOutcome : Type 0 where
-  pub answer : Reading
+  pub answer : Result ℕ Unread
   pub words : List ℤ
 
-abbrev pub unread : Reading → List ℤ → ReadOutcome
+abbrev pub unread : Result ℕ Unread → List ℤ → ReadOutcome
 unread r ws = record { answer = r; words = ws }
 
 -- "A word list too short is 9, last."
 abbrev pub read_into : Bool → List ℤ → List ℤ → ReadOutcome
-read_into true new ws = record { answer = Words (length new); words = over new ws }
-read_into false new ws = unread (Refused 9) ws
+read_into true new ws = record { answer = Ok (length new); words = over new ws }
+read_into false new ws = unread (Err (Refused 9)) ws
 
 -- "or 0 if none is faulty but items or options are missing"
 abbrev pub read_stated : Option (List ℤ) → List ℤ → ReadOutcome
-read_stated none ws = unread (Faulty 0) ws
-read_stated (some new) ws = read_into (leb (length new) (length ws)) new ws
+read_stated None ws = unread (Err (Faulty 0)) ws
+read_stated (Some new) ws = read_into (leb (length new) (length ws)) new ws
 
 -- "Every text refusal is 13 with the number from 1 of the first faulty line"
 abbrev pub read_lines : ℕ → Option (List ℤ) → List ℤ → ReadOutcome
-read_lines (suc k) new ws = unread (Faulty (suc k)) ws
+read_lines (suc k) new ws = unread (Err (Faulty (suc k))) ws
 read_lines zero new ws = read_stated new ws
 
 -- "Longer input is 3, for the reader too, before all else"
 abbrev pub read_sized : Bool → ReadOutcome → List ℤ → ReadOutcome
 read_sized true read ws = read
-read_sized false read ws = unread (Refused 3) ws
+read_sized false read ws = unread (Err (Refused 3)) ws
 
 unfoldable pub read_call : List ℕ → Bool → List ℤ → ReadOutcome
 read_call text front ws =
     read_sized (leb (length text) 65536)
-    (read_lines (first_bad front 1 none (lines text)) (words_of front (stated (lines text))) ws)
+    (read_lines (first_bad front 1 None (lines text)) (words_of front (stated (lines text))) ws)
     ws

@@ -1,6 +1,5 @@
 -- The walk: depth first, with an allowance of visits; and the list of all solutions, with none.
-use Rattle.std.specs.Prelude.{List, [], ◌∷◌, ◌++◌, map, ℕ, zero, suc, ◌+◌, length}
-use Rattle.std.proofs.Math.Option.{Option, none, some}
+use Rattle.std.specs.Prelude.{List, [], ◌∷◌, ◌++◌, map, ℕ, zero, suc, ◌+◌, length, Option, None, Some}
 use Rattle.rules.specs.declared.Phase.{Phase}
 use Rattle.rules.specs.declared.Phase.TheVariants.{Ready, Solution, Done}
 use Rattle.rules.specs.Lists.{flat}
@@ -39,16 +38,16 @@ pub record Move : Type 0 where
 module _ (P : Problem) where
   abbrev pub back_to : List Choice → List Level → Option Move → Option Move
   back_to [] above r = r
-  back_to (c ∷ cs) above r = some (record { to = record { tried = c; left = cs } ∷ above; updates = cost (try P (held (made above)) c) })
+  back_to (c ∷ cs) above r = Some (record { to = record { tried = c; left = cs } ∷ above; updates = cost (try P (held (made above)) c) })
 
   -- the next choice at the deepest level that has one left
   unfoldable pub retreat : List Level → Option Move
-  retreat [] = none
+  retreat [] = None
   retreat (v ∷ above) = back_to v.left above (retreat above)
 
   abbrev pub go_into : List Choice → List Level → Option Move
   go_into [] s = retreat s
-  go_into (c ∷ cs) s = some (record { to = record { tried = c; left = cs } ∷ s; updates = cost (choose P (held (made s)) c) })
+  go_into (c ∷ cs) s = Some (record { to = record { tried = c; left = cs } ∷ s; updates = cost (choose P (held (made s)) c) })
 
   -- "tries its options in input order": a visit that takes item i goes to its first option, or back where it has none
   unfoldable pub enter : List Level → ℕ → Option Move
@@ -79,13 +78,13 @@ abbrev pub paying : ℕ → Walk → Walk
 paying u w = record { end = w.end; at = w.at; visited = w.visited; updates = u + w.updates }
 
 abbrev pub follow : Option Move → (List Level → Walk) → Walk
-follow none k = stop exhausted []
-follow (some m) k = paying m.updates (k m.to)
+follow None k = stop exhausted []
+follow (Some m) k = paying m.updates (k m.to)
 
 -- a point with no open item is a solution; at any other an item is taken
 abbrev pub at_point : List Level → Option ℕ → (ℕ → Walk) → Walk
-at_point s none k = stop solution s
-at_point s (some i) k = k i
+at_point s None k = stop solution s
+at_point s (Some i) k = k i
 
 module _ (P : Problem) (rule : Rule) where
   -- From a point that is reached and not yet left, with an allowance of visits: "A visit is a point where an item is chosen, counted even if
@@ -104,8 +103,8 @@ module _ (P : Problem) (rule : Rule) where
 
   -- what lies below a point, by what lies below each of the choices there
   abbrev pub branch : List Placed → Option ℕ → (Placed → List (List Placed)) → List (List Placed)
-  branch chosen none rest = chosen ∷ []
-  branch chosen (some i) rest = flat (λ c. rest c.option) (choices i (open_options P chosen))
+  branch chosen None rest = chosen ∷ []
+  branch chosen (Some i) rest = flat (λ c. rest c.option) (choices i (open_options P chosen))
 
   -- the solutions that extend the chosen options, each with the deepest choice first, down to d levels further
   unfoldable pub solutions : ℕ → List Placed → List (List Placed)

@@ -3,6 +3,7 @@
 
 ghost use Rattle.std.specs.Prelude.{◌≡◌};
 ghost use Rattle.rules.specs.Problem.{library_limits, door_limits};
+ghost use Rattle.rules.specs.Calls.{walk_said};
 
 // Ready to visit the point that the path leads to, at a solution there, or done with the search.
 #[derive(Clone, Copy)]
@@ -12,7 +13,8 @@ pub enum Phase {
     Done,
 }
 
-// The search state, passed by value beside the lent lists.
+// The search state, passed by value beside the lent lists. No `From` makes a usize of the depth: `as` does, and loses
+// nothing, which each place's proof shows.
 #[derive(Clone, Copy)]
 pub struct State {
     pub phase: Phase,
@@ -20,31 +22,38 @@ pub struct State {
     pub updates: u64,
 }
 
+// A call that refuses: the number of the refusal, and the state after it. The numbers are document 01's, of which
+// `problem_refusal`, `search_refusal` and the clauses speak.
 #[derive(Clone, Copy)]
-pub enum SetUpAnswer {
-    SetUp(State),
-    Refused(State, u32),
+pub struct Refused {
+    pub state: State,
+    pub number: u32,
 }
 
-// Each answer of Next but a refusal has the visits that the call made.
+// How a walk ends: the state there, and the visits that it made. A walk cannot refuse.
 #[derive(Clone, Copy)]
 pub enum NextAnswer {
     Solution(State, u64),
     Exhausted(State, u64),
     Paused(State, u64),
-    Refused(State, u32),
 }
 
-#[derive(Clone, Copy)]
-pub enum GiveUpAnswer {
-    GivenUp(State),
-    Refused(State, u32),
+impl NextAnswer {
+    pub fn number(self) -> u32
+        ensures { result ≡ (walk_said self).number }
+    {
+        match self {
+            NextAnswer::Solution(_, _) => 0,
+            NextAnswer::Exhausted(_, _) => 20,
+            NextAnswer::Paused(_, _) => 21,
+        }
+    }
 }
 
-// What the reader of the text form answers: how many words it wrote, the number of a faulty line, or the number of another refusal.
+// Why the reader of the text form wrote no words: the number of a faulty line, or of another refusal. Refusals are numbers,
+// since document 01 numbers them, and `read_said` and the clauses speak of these numbers.
 #[derive(Clone, Copy)]
-pub enum Reading {
-    Words(usize),
+pub enum Unread {
     Faulty(usize),
     Refused(u32),
 }
@@ -67,13 +76,6 @@ pub struct Sizes {
     pub entries: usize,
 }
 
-// What the words say before an entry is looked at.
-#[derive(Clone, Copy)]
-pub enum Verdict {
-    Refused(u32),
-    Sized(Sizes),
-}
-
 pub const LIBRARY_ITEMS: usize = 1024;
 
 pub const LIBRARY_OPTIONS: usize = 4096;
@@ -89,6 +91,7 @@ pub const DOOR_ENTRIES: usize = 256;
 // Updates and profile grow no further.
 pub const CAP: u64 = 9223372036854775807;
 
+// A function for each of the limits: one that takes the three numbers would be no more than the struct's literal.
 pub fn library() -> Limits
     ensures { result ≡ library_limits }
 {

@@ -2,7 +2,7 @@
 use mathlib.Core.Path.{◌≡◌, refl, sym, ap, ◌∙◌}
 use mathlib.Core.Logic.{◌≢◌}
 use mathlib.Core.Bool.{Bool, true, false, cond}
-use mathlib.Core.Option.{some}
+use Rattle.std.specs.Prelude.{None, Some}
 use mathlib.Core.List.Memᴰ.{append_right as in_right}
 use mathlib.Core.List.Memᴰ.{head as here}
 use mathlib.Core.List.{List, [], ◌∷◌, ◌++◌, map, map-append, append_assoc, Memᴰ as Mem}
@@ -62,7 +62,7 @@ pub record Choosing (P : Problem) (s : List Level) (p i min : ℕ) : Type 0 wher
   pub at : p ≡ first_or 0 (map suc rest)
   pub item : i ≡ suc best.item
   pub weight : min ≡ best.weight
-  pub picks : pick P (chosen s) ≡ some (least_from best (map (weigh P s) rest)).item
+  pub picks : pick P (chosen s) ≡ Some (least_from best (map (weigh P s) rest)).item
 
 -- an open item at p, the first of those ahead
 pub record Turn (P : Problem) (n : ℕ) (s : List Level) (t : List ℤ) (done ahead : List ℕ) (p : ℕ) : Type 0 where
@@ -110,11 +110,12 @@ module _ (P : Problem) (n : ℕ) (s : List Level) (t : List ℤ) (A : At P n s t
   turn done (j ∷ rest) p e u ne = turn_at done j rest p e u
 
   -- no open item
-  pub none_open : (p : ℕ) → p ≡ first_or 0 (map suc (open_items P (chosen s))) → p ≡ 0 → 0 ≡ header (pick P (chosen s))
+  pub none_open : (p : ℕ) → p ≡ first_or 0 (map suc (open_items P (chosen s))) → p ≡ 0
+      → None ≡ header (pick P (chosen s))
   unfolding pick
   none_open p u z = step (open_items P (chosen s)) u
     where
-      step : (l : List ℕ) → p ≡ first_or 0 (map suc l) → 0 ≡ header (least (map (weigh P s) l))
+      step : (l : List ℕ) → p ≡ first_or 0 (map suc l) → None ≡ header (least (map (weigh P s) l))
       step [] v = refl
       step (j ∷ l) v = absurd (omega arith)
 
@@ -148,8 +149,8 @@ module _ (P : Problem) (n : ℕ) (s : List Level) (t : List ℤ) (A : At P n s t
       item = g;
       weight = h;
       picks =
-          C.picks ∙ ap (λ (l : List ℕ). some (least_from C.best (map (weigh P s) l)).item) T.ahead_is
-          ∙ ap (λ (x : Bool). some (least_from (cond x W C.best) (map (weigh P s) T.rest)).item) f;
+          C.picks ∙ ap (λ (l : List ℕ). Some (least_from C.best (map (weigh P s) l)).item) T.ahead_is
+          ∙ ap (λ (x : Bool). Some (least_from (cond x W C.best) (map (weigh P s) T.rest)).item) f;
     }
 
     pub lighter_one : k < min → Choosing P s p' p k
@@ -159,15 +160,17 @@ module _ (P : Problem) (n : ℕ) (s : List Level) (t : List ℤ) (A : At P n s t
     no_lighter h = next false (le-ltb W.weight C.best.weight (omega (arith, C.weight))) i min C.item C.weight
 
   -- nothing is lighter than an item without an option
-  pub dead : {p i min : ℕ} → Choosing P s p i min → min ≡ 0 → i ≡ header (pick P (chosen s))
+  pub dead : {p i min : ℕ} → Choosing P s p i min → min ≡ 0 → Some i ≡ header (pick P (chosen s))
   dead C z =
-      C.item ∙ ap header (sym (C.picks ∙ ap (λ (w : Weighed). some w.item) (none_lighter C.best (map (weigh P s) C.rest) (sym C.weight ∙ z))))
+      ap Some C.item ∙ ap header (sym (C.picks ∙ ap (λ (w : Weighed). Some w.item) (none_lighter C.best (map
+      (weigh P s) C.rest) (sym C.weight ∙ z))))
 
   -- the walk is done
-  pub chosen_is : {p i min : ℕ} → Choosing P s p i min → p ≡ 0 → i ≡ header (pick P (chosen s))
+  pub chosen_is : {p i min : ℕ} → Choosing P s p i min → p ≡ 0 → Some i ≡ header (pick P (chosen s))
   unfolding least_from
   chosen_is {p} {i} C z = step C.rest refl
     where
-      step : (r : List ℕ) → C.rest ≡ r → i ≡ header (pick P (chosen s))
-      step [] e = C.item ∙ ap header (sym (C.picks ∙ ap (λ (l : List ℕ). some (least_from C.best (map (weigh P s) l)).item) e))
+      step : (r : List ℕ) → C.rest ≡ r → Some i ≡ header (pick P (chosen s))
+      step [] e = ap Some C.item ∙ ap header (sym (C.picks
+          ∙ ap (λ (l : List ℕ). Some (least_from C.best (map (weigh P s) l)).item) e))
       step (j ∷ rest) e = let u : p ≡ suc j = C.at ∙ ap (λ (l : List ℕ). first_or 0 (map suc l)) e in absurd (omega arith)

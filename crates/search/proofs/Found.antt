@@ -1,8 +1,7 @@
 -- The option numbers of a point, written from the deepest level up.
 use mathlib.Core.Path.{◌≡◌, refl, sym, ap, ◌∙◌}
-use mathlib.Core.Logic.{◌≢◌}
 use mathlib.Core.List.{List, [], ◌∷◌, map}
-use Prim.Native.Nat.{ℕ, ◌-◌, ◌<◌}
+use Prim.Native.Nat.{ℕ, ◌-◌, ◌≤◌, ◌<◌}
 use native.Mathlib.Omega.{arith}
 use lib.IntN.{ℤ, pos}
 use lib.ListN.{length, set}
@@ -46,11 +45,12 @@ pub record Line (P : Problem) (n : ℕ) (s : List Level) (t path : List ℤ) (l 
   pub is_node : {x : ℕ} → Link path l x → IsNode P (held (made s)) n t v.tried x
   pub next : {found' : List ℤ} → found' ≡ set found l (pos v.tried.option.number) → l < length found → Writing P s path l found₀ found'
 
-pub line : {P : Problem} {n : ℕ} {s : List Level} {t path : List ℤ} {l : ℕ} {found₀ found : List ℤ} → At P n s t → Writing P s path l found₀ found → l ≢ 0 → Line P n s t path (l - 1) found₀ found
-line {P} {n} {s} {t} {path} {l} {found₀} {found} A W ne = step W.top W.reached W.trail W.level W.same
+pub line : {P : Problem} {n : ℕ} {s : List Level} {t path : List ℤ} {l : ℕ} {found₀ found : List ℤ} → At P n s t
+    → Writing P s path l found₀ found → 0 < l → Line P n s t path (l - 1) found₀ found
+line {P} {n} {s} {t} {path} {l} {found₀} {found} A W some = step W.top W.reached W.trail W.level W.same
   where
     step : (top : List Level) → Reached P (pick P) top → Trail path top → l ≡ length top → over (map pos (numbers s)) found₀ ≡ over (map pos (numbers top)) found → Line P n s t path (l - 1) found₀ found
-    step [] r q e f = absurd (ne e)
+    step [] r q e f = absurd (omega arith)
     step (v ∷ top) r q e f =
         let d : l - 1 ≡ length top = omega arith in
         let w : word path (l - 1) ≡ pos (node v.tried) = rw d q.1 in
@@ -68,7 +68,8 @@ line {P} {n} {s} {t} {path} {l} {found₀} {found} A W ne = step W.top W.reached
           };
         }
 
-pub written : {P : Problem} {s : List Level} {path : List ℤ} {l : ℕ} {found₀ found : List ℤ} → Writing P s path l found₀ found → l ≡ 0 → found ≡ over (map pos (numbers s)) found₀
+pub written : {P : Problem} {s : List Level} {path : List ℤ} {l : ℕ} {found₀ found : List ℤ}
+    → Writing P s path l found₀ found → l ≤ 0 → found ≡ over (map pos (numbers s)) found₀
 unfolding in_order
 written {s = s} {l = l} {found₀ = found₀} {found = found} W z = step W.top W.level W.same
   where

@@ -1,7 +1,7 @@
 -- At a point of the search: what its table shows, and what a level tries.
 use mathlib.Core.Path.{◌≡◌, refl, sym, ap, ◌∙◌, subst}
 use mathlib.Core.Bool.{not}
-use mathlib.Core.Option.{some}
+use Rattle.std.specs.Prelude.{Some}
 use mathlib.Core.List.Memᴰ.{append_right as in_right}
 use mathlib.Core.List.Memᴰ.{head as here}
 use mathlib.Core.List.{List, ◌∷◌, ◌++◌, map, map-map, map-append, Memᴰ as Mem}
@@ -34,7 +34,7 @@ use Rattle.links.specs.Moves.{Shown, bare, IsNode, CanCover, CanCommit}
 pub record Tries (P : Problem) (v : Level) (above : List Level) : Type 0 where
   pub item : ℕ
   pub before : List Choice
-  pub picks : pick P (chosen above) ≡ some item
+  pub picks : pick P (chosen above) ≡ Some item
   pub split : choices item (open_options P (chosen above)) ≡ before ++ v.tried ∷ v.left
   pub reached : Reached P (pick P) above
 

@@ -1,9 +1,9 @@
 -- A choice tried, tried again and taken back; going back, and entering an item: table, path and level.
 use mathlib.Core.Path.{◌≡◌, refl, sym, ap, ◌∙◌}
 use mathlib.Core.Logic.{◌≢◌}
-use mathlib.Core.Option.{some}
+use Rattle.std.specs.Prelude.{Option, None, Some}
 use mathlib.Core.List.{List, [], ◌∷◌, ◌++◌, map, append_assoc, Memᴰ as Mem}
-use Prim.Native.Nat.{ℕ, suc, ◌+◌, ◌-◌, ◌<◌}
+use Prim.Native.Nat.{ℕ, suc, ◌+◌, ◌-◌, ◌≤◌, ◌<◌}
 use native.Mathlib.Omega.{arith}
 use lib.IntN.{ℤ, pos}
 use lib.ListN.{length, set}
@@ -13,15 +13,12 @@ use Rattle.rules.specs.Order.{Choice, node, pick, choices, open_options, open_it
 use Rattle.rules.specs.Links.{cost, own, held, touch, try, choose, table, run_events, first_or}
 use Rattle.rules.specs.Walk.{Level, made, chosen, back_to, retreat, go_into, enter}
 use Rattle.rules.specs.Calls.{capped}
-use Rattle.laws.specs.Lists.{mem_length}
+use Rattle.laws.specs.Lists.{cannot, mem_length}
 use Rattle.laws.specs.Order.{pick_some, open_item_facts}
 use Rattle.laws.specs.Reached.{Reached, level}
 use Rattle.tables.specs.Shows.{view}
 use Rattle.words.specs.Read.{Natural, Link}
 use Rattle.links.specs.Moves.{InList, IsNode, Done, bare, CanCover, Covered, CanCommit, Committed}
-use Rattle.search.specs.declared.Way.TheVariants as Ways
-use Rattle.search.specs.declared.x.Again.{Again}
-use Rattle.search.specs.declared.x.Again.TheVariants as Agains
 use Rattle.search.specs.Depth.{shallow, room, path_long, level_within}
 use Rattle.search.specs.Points.{At, On, Trying, Tried, Retried, Last, Gone, Picked, Taking}
 use Rattle.search.proofs.Choosing.{shown}
@@ -122,7 +119,7 @@ module _ {P : Problem} {n : ℕ} {v : Level} {above : List Level} {t path : List
   again_item c cs r =
       let a = own_item P O.at.good O.at.small O.at.reached in
       let b = own_item P O.at.good O.at.small r in
-      let e : some (tries r).item ≡ some (tries O.at.reached).item = sym (tries r).picks ∙ (tries O.at.reached).picks in
+      let e : Some (tries r).item ≡ Some (tries O.at.reached).item = sym (tries r).picks ∙ (tries O.at.reached).picks in
       let f : (tries r).item ≡ (tries O.at.reached).item = cc in
       b ∙ f ∙ sym a
 
@@ -148,7 +145,8 @@ module _ {P : Problem} {n : ℕ} {v : Level} {above : List Level} {t path : List
           let h : y ≡ node c = e ∙ ap (λ (l : List Choice). first_or (suc j) (map node l)) u in
           absurd (omega (arith, node_range P O.at.good O.at.small (again_reached c cs u), primary P O.at.good O.at.small O.at.reached))
 
-  pub back : {t₂ path₂ : List ℤ} → v.left ≡ [] → t₂ ≡ table P (made above) → path₂ ≡ set path l (pos 0) → Retried P n l v.left above t₂ path₂ Agains.Restored
+  pub back : {t₂ path₂ : List ℤ} → v.left ≡ [] → t₂ ≡ table P (made above) → path₂ ≡ set path l (pos 0)
+      → Retried P n l v.left above t₂ path₂ None
   back u e f = rw u (record {
     is = refl;
     on = record {
@@ -166,13 +164,11 @@ module _ {P : Problem} {n : ℕ} {v : Level} {above : List Level} {t path : List
         ∙ ap (λ (i : ℕ). run_events (items P) (table P (made above)) (touch P (held (made above)) (bare i))) (sym N.item_is)
         ∙ cover_is P O.at.good O.at.small N.reached
 
-    pub again_small : y < 2147483648
-    again_small = omega (arith, N.node_is, O.at.small, node_range P O.at.good O.at.small N.reached)
-
     pub again_commit : CanCommit P (held (made above)) n t₁ N.w.tried y
     again_commit = rw (one_table, N.node_is, O.at.n_is) (can_commit P O.at.good O.at.small N.reached)
 
-    pub onward : {t₂ path₂ : List ℤ} {a : ℕ} → Done n t₁ (try P (held (made above)) N.w.tried) t₂ a → path₂ ≡ set path l (pos y) → Retried P n l v.left above t₂ path₂ (Agains.Tried a)
+    pub onward : {t₂ path₂ : List ℤ} {a : ℕ} → Done n t₁ (try P (held (made above)) N.w.tried) t₂ a
+        → path₂ ≡ set path l (pos y) → Retried P n l v.left above t₂ path₂ (Some a)
     onward {a = a} D f = rw N.left_is (record {
       updates = a;
       is = refl;
@@ -205,46 +201,50 @@ pub record Deepest (P : Problem) (n : ℕ) (s₀ : List Level) (t path : List �
   pub on : On P n (v ∷ above) t path (suc l)
   pub same : retreat P s₀ ≡ retreat P (v ∷ above)
 
-pub deepest : {P : Problem} {n : ℕ} {s₀ : List Level} {t path : List ℤ} {l : ℕ} → Retreating P n s₀ t path l → l ≢ 0 → Deepest P n s₀ t path (l - 1)
-deepest {P} {n} {s₀} {t} {path} {l} R ne = step R.s R.on R.same
+pub deepest : {P : Problem} {n : ℕ} {s₀ : List Level} {t path : List ℤ} {l : ℕ} → Retreating P n s₀ t path l → 0 < l
+    → Deepest P n s₀ t path (l - 1)
+deepest {P} {n} {s₀} {t} {path} {l} R some = step R.s R.on R.same
   where
     step : (s : List Level) → On P n s t path l → retreat P s₀ ≡ retreat P s → Deepest P n s₀ t path (l - 1)
-    step [] O e = absurd (ne O.level)
+    step [] O e = absurd (omega (arith, O.level))
     step (v ∷ above) O e = record { v = v; above = above; on = record { at = O.at; path_is = O.path_is; level = omega (arith, O.level) }; same = e }
 
-module _ {P : Problem} {n : ℕ} {s₀ : List Level} {t path : List ℤ} {l : ℕ} (D : Deepest P n s₀ t path l) (t' path' : List ℤ) (r : Again)
+module _ {P : Problem} {n : ℕ} {s₀ : List Level} {t path : List ℤ} {l : ℕ} (D : Deepest P n s₀ t path l)
+    (t' path' : List ℤ) (r : Option ℕ)
     (R : Retried P n l D.v.left D.above t' path' r) where
   -- it goes on to the next choice there
-  pub gone_on : {a : ℕ} → r ≡ Agains.Tried a → Gone P n (retreat P s₀) t' path' (Ways.To (l + 1) a)
+  pub gone_on : {a : ℕ} → r ≡ Some a → Gone P n (retreat P s₀) t' path' (Some (l + 1, a))
   unfolding retreat
   gone_on {a} e = step D.v.left refl R
     where
-      step : (cs : List Choice) → D.v.left ≡ cs → Retried P n l cs D.above t' path' r → Gone P n (retreat P s₀) t' path' (Ways.To (l + 1) a)
-      step [] u B = absurd (let z : ◌≡◌ {A = ℕ} 0 1 = let q = B.is in cc in omega arith)
+      step : (cs : List Choice) → D.v.left ≡ cs → Retried P n l cs D.above t' path' r
+          → Gone P n (retreat P s₀) t' path' (Some (l + 1, a))
+      step [] u B = cannot (let q = B.is in cc)
       step (c ∷ cs) u N =
           let k : a ≡ N.updates = let q = N.is in cc in
           let h : l + 1 ≡ suc (length D.above) = omega (arith, N.on.level) in
           rw (D.same, u) (record {
             updates = a;
-            is = ap (λ (m : ℕ). Ways.To m a) h;
+            is = ap (λ (m : ℕ). Some (m, a)) h;
             on = record { at = N.on.at; path_is = N.on.path_is; level = refl };
             counts = λ x. ap (λ (m : ℕ). capped x m) (k ∙ N.counts);
           })
 
   -- or back above it
-  pub gone_back : r ≡ Agains.Restored → Retreating P n s₀ t' path' l
+  pub gone_back : r ≡ None → Retreating P n s₀ t' path' l
   unfolding retreat
   gone_back e = step D.v.left refl R
     where
       step : (cs : List Choice) → D.v.left ≡ cs → Retried P n l cs D.above t' path' r → Retreating P n s₀ t' path' l
       step [] u B = record { s = D.above; on = B.on; same = D.same ∙ ap (λ (cs : List Choice). back_to P cs D.above (retreat P D.above)) u }
-      step (c ∷ cs) u N = absurd (let z : ◌≡◌ {A = ℕ} 0 1 = let q = N.is in cc in omega arith)
+      step (c ∷ cs) u N = cannot (let q = N.is in cc)
 
-pub gone_out : {P : Problem} {n : ℕ} {s₀ : List Level} {t path : List ℤ} {l : ℕ} → Retreating P n s₀ t path l → l ≡ 0 → Gone P n (retreat P s₀) t path Ways.Out
+pub gone_out : {P : Problem} {n : ℕ} {s₀ : List Level} {t path : List ℤ} {l : ℕ} → Retreating P n s₀ t path l → l ≤ 0
+    → Gone P n (retreat P s₀) t path None
 unfolding retreat
 gone_out {P} {n} {s₀} {t} {path} {l} R z = step R.s R.on R.same
   where
-    step : (s : List Level) → On P n s t path l → retreat P s₀ ≡ retreat P s → Gone P n (retreat P s₀) t path Ways.Out
+    step : (s : List Level) → On P n s t path l → retreat P s₀ ≡ retreat P s → Gone P n (retreat P s₀) t path None
     step [] O e = rw e (record { is = refl; on = record { at = O.at; path_is = O.path_is; level = refl } })
     step (v ∷ above) O e = absurd (omega (arith, O.level))
 
@@ -256,13 +256,6 @@ level_small {P} {n} {s} {t} {path} {l} O = step s O.level O.at.reached
     step [] e r = omega arith
     step (v ∷ above) e r = omega (arith, room r, node_range P O.at.good O.at.small r, O.at.small)
 
--- all tables and paths of one problem are of one length
-pub one_length : {P : Problem} {n : ℕ} {s s' : List Level} {t t' : List ℤ} → At P n s t → At P n s' t' → length t ≡ length t'
-one_length A B = (shown A).shows.size ∙ sym (shown B).shows.size
-
-pub one_path : {P : Problem} {n : ℕ} {s s' : List Level} {t t' path path' : List ℤ} {l l' : ℕ} → On P n s t path l → On P n s' t' path' l' → length path ≡ length path'
-one_path O Q = path_long O ∙ sym (path_long Q)
-
 -- ---- `enter`
 
 -- the first choice of the item j
@@ -271,7 +264,7 @@ pub record First (P : Problem) (s : List Level) (j i x : ℕ) : Type 0 where
   pub reached : Reached P (pick P) (v ∷ s)
   pub header_is : i ≡ suc (own v.tried).item
   pub node_is : x ≡ node v.tried
-  pub enter_is : enter P s j ≡ some (record { to = v ∷ s; updates = cost (choose P (held (made s)) v.tried) })
+  pub enter_is : enter P s j ≡ Some (record { to = v ∷ s; updates = cost (choose P (held (made s)) v.tried) })
 
 module _ {P : Problem} {n : ℕ} {s : List Level} {j : ℕ} {t : List ℤ} {i : ℕ} (K : Picked P n s j t i) where
   abbrev ways : List Choice
@@ -301,7 +294,7 @@ module _ {P : Problem} {n : ℕ} {s : List Level} {j : ℕ} {t : List ℤ} {i : 
 
   pub way_header : (v : Level) → Reached P (pick P) (v ∷ s) → i ≡ suc (own v.tried).item
   way_header v r =
-      let e : some (tries r).item ≡ some j = sym (tries r).picks ∙ K.picks in
+      let e : Some (tries r).item ≡ Some j = sym (tries r).picks ∙ K.picks in
       let f : (tries r).item ≡ j = cc in
       K.header_is ∙ ap suc (sym (own_item P K.at.good K.at.small r ∙ f))
 
@@ -309,6 +302,18 @@ module _ {P : Problem} {n : ℕ} {s : List Level} {j : ℕ} {t : List ℤ} {i : 
   pub way_other : (xs : List Choice) (c : Choice) (cs : List Choice) → ways ≡ xs ++ c ∷ cs → node c ≢ i
   way_other xs c cs e f =
       omega (arith, K.header_is, open_item_facts P (chosen s) opened, node_range P K.at.good K.at.small (way_reached xs (record { tried = c; left = cs }) e))
+
+  -- and stands in the table
+  pub way_below : (xs : List Choice) (c : Choice) (cs : List Choice) → ways ≡ xs ++ c ∷ cs → {p : ℕ} → p ≡ node c
+      → p < length t
+  way_below xs c cs e f =
+      omega (
+        arith,
+        f,
+        (shown K.at).shows.size,
+        node_range P K.at.good K.at.small (way_reached xs
+            (record { tried = c; left = cs }) e),
+      )
 
   pub first_choice : {x : ℕ} → x ≡ first_or (suc j) (map node ways) → x ≢ i → First P s j i x
   unfolding enter
@@ -339,16 +344,14 @@ module _ {P : Problem} {n : ℕ} {s : List Level} {j : ℕ} {t path : List ℤ} 
   entry_room = omega (arith, K.on.level, path_long K.on, shallow K.on.at.reached, mem_length (pick_some P (chosen s) K.picked.picks))
 
   module _ {x : ℕ} (F : First P s j i x) where
-    pub entry_small : x < 2147483648
-    entry_small = omega (arith, F.node_is, K.on.at.small, node_range P K.on.at.good K.on.at.small F.reached)
-
     pub entry_trying : Trying P n s F.v t i x
     entry_trying = record { at = K.on.at; reached = F.reached; header_is = F.header_is; node_is = F.node_is }
 
-    pub entered : {t' path' : List ℤ} {a : ℕ} → Tried P n s F.v t' a → path' ≡ set path l (pos x) → Gone P n (enter P s j) t' path' (Ways.To (l + 1) a)
+    pub entered : {t' path' : List ℤ} {a : ℕ} → Tried P n s F.v t' a → path' ≡ set path l (pos x)
+        → Gone P n (enter P s j) t' path' (Some (l + 1, a))
     entered {a = a} T f = rw F.enter_is (record {
       updates = a;
-      is = ap (λ (m : ℕ). Ways.To m a) (let h : l + 1 ≡ suc (length s) = omega (arith, K.on.level) in h);
+      is = ap (λ (m : ℕ). Some (m, a)) (let h : l + 1 ≡ suc (length s) = omega (arith, K.on.level) in h);
       on = record {
         at = T.at;
         path_is = f ∙ rw (K.on.path_is, K.on.level, F.node_is) (path_more P.np F.v s (room F.reached));

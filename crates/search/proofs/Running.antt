@@ -1,7 +1,7 @@
 -- The walk as a loop: what is told at its end, by what is left of it.
 use mathlib.Core.Path.{◌≡◌, refl, sym, ap, ◌∙◌}
 use mathlib.Core.Logic.{◌≢◌}
-use mathlib.Core.Option.{Option, none, some}
+use Rattle.std.specs.Prelude.{Option, None, Some}
 use mathlib.Core.List.{List, [], ◌∷◌, ◌++◌}
 use Prim.Native.Nat.{ℕ, zero, suc, ◌+◌, ◌-◌, ◌≤◌, ◌<◌}
 use native.Mathlib.Omega.{arith}
@@ -9,6 +9,7 @@ use borrow.Author.Tests.{eq-eqb, ne_eqb}
 use lib.IntN.{ℤ}
 use lib.ListN.{length, get_or, set, length-set}
 use Rattle.rules.specs.Lists.{tally}
+use Rattle.laws.specs.Lists.{cannot}
 use Rattle.rules.specs.declared.NextAnswer.{NextAnswer}
 use Rattle.rules.specs.declared.Phase.{Phase}
 use Rattle.rules.specs.declared.Phase.TheVariants as Phases
@@ -17,10 +18,8 @@ use Rattle.rules.specs.Problem.{Problem}
 use Rattle.rules.specs.Order.{pick}
 use Rattle.rules.specs.Walk.{Level, chosen, Move, retreat, enter, End, solution, exhausted, paused, Walk, stop, visiting, paying, follow, walk, resume}
 use Rattle.rules.specs.Calls.{cap, capped, profile_from, phase_after, blank, moved, started_in, next_answer}
-use Rattle.search.specs.declared.Way.{Way}
-use Rattle.search.specs.declared.Way.TheVariants as Ways
 use Rattle.search.specs.Depth.{path_long}
-use Rattle.search.specs.Points.{On, header, Gone, Taking, Profile, Ran, Begun}
+use Rattle.search.specs.Points.{At, On, header, Gone, Picked, Taking, Profile, Ran, Begun}
 use Rattle.search.proofs.Moving.{entry_room}
 
 -- ---- the profile
@@ -150,15 +149,16 @@ pub record Onward (P : Problem) (n : ℕ) (T : Told) (a : ℕ) (t path : List �
   pub same : T ≡ told (walk P (pick P) a s) u v profile
 
 module _ {P : Problem} {n : ℕ} (m : Option Move) {T : Told} (a u v : ℕ) (profile : List ℕ) (e : T ≡ told (follow m (λ s. walk P (pick P) a s)) u v profile)
-    (t path : List ℤ) (r : Way) (G : Gone P n m t path r) where
-  pub goes_on : {k b u' : ℕ} → r ≡ Ways.To k b → u' ≡ capped u b → Onward P n T a t path k u' v profile
+    (t path : List ℤ) (r : Option (ℕ × ℕ)) (G : Gone P n m t path r) where
+  pub goes_on : {k b u' : ℕ} → r ≡ Some (k, b) → u' ≡ capped u b → Onward P n T a t path k u' v profile
   goes_on {k} {b} {u'} f h = step m e G
     where
       step : (m : Option Move) → T ≡ told (follow m (λ s. walk P (pick P) a s)) u v profile → Gone P n m t path r → Onward P n T a t path k u' v profile
-      step none e G = absurd (let z : ◌≡◌ {A = ℕ} 0 1 = let q = G.is in cc in omega arith)
-      step (some m) e G =
-          let x : k ≡ length m.to = let q = G.is in cc in
-          let y : b ≡ G.updates = let q = G.is in cc in
+      step None e G = cannot (let q = G.is in cc)
+      step (Some m) e G =
+          let both : (k, b) ≡ (length m.to, G.updates) = let q = G.is in cc in
+          let x : k ≡ length m.to = ap (λ (p : ℕ × ℕ). p.0) both in
+          let y : b ≡ G.updates = ap (λ (p : ℕ × ℕ). p.1) both in
           let c : u' ≡ capped u m.updates = h ∙ ap (λ (i : ℕ). capped u i) y ∙ G.counts u in
           record {
             s = m.to;
@@ -166,12 +166,12 @@ module _ {P : Problem} {n : ℕ} (m : Option Move) {T : Told} (a u v : ℕ) (pro
             same = e ∙ told_pay m.updates u u' v profile (walk P (pick P) a m.to) c;
           }
 
-  pub goes_out : r ≡ Ways.Out → (T ≡ told (stop exhausted []) u v profile) × On P n [] t path 0
+  pub goes_out : r ≡ None → (T ≡ told (stop exhausted []) u v profile) × On P n [] t path 0
   goes_out f = step m e G
     where
       step : (m : Option Move) → T ≡ told (follow m (λ s. walk P (pick P) a s)) u v profile → Gone P n m t path r → (T ≡ told (stop exhausted []) u v profile) × On P n [] t path 0
-      step none e G = (e, G.on)
-      step (some m) e G = absurd (let z : ◌≡◌ {A = ℕ} 0 1 = let q = G.is in cc in omega arith)
+      step None e G = (e, G.on)
+      step (Some m) e G = cannot (let q = G.is in cc)
 
 -- ---- `run`
 
@@ -192,25 +192,31 @@ starts {P} {n} {s} {profile} {u} allowance O h p = record {
 }
 
 -- an item is taken, or none is open
-pub taken : (o : Option ℕ) {i : ℕ} → i ≡ header o → i ≢ 0 → (j : ℕ) × (o ≡ some j) × (i ≡ suc j)
-taken none e ne = absurd (ne e)
-taken (some j) e ne = (j, refl, e)
+pub taken : (o : Option ℕ) {i : ℕ} → Some i ≡ header o → (j : ℕ) × (o ≡ Some j) × (i ≡ suc j)
+taken None e = cannot (cc)
+taken (Some j) e = (j, refl, cc)
 
-pub no_item : (o : Option ℕ) {i : ℕ} → i ≡ header o → i ≡ 0 → o ≡ none
-no_item none e z = refl
-no_item (some j) e z = absurd (omega arith)
+pub picked : {P : Problem} {n : ℕ} {s : List Level} {t : List ℤ} {i : ℕ} → At P n s t
+    → Some i ≡ header (pick P (chosen s)) → (j : ℕ) × Picked P n s j t i
+picked {P} {s = s} A e =
+    let k = taken (pick P (chosen s)) e in
+    (k.0, record { at = A; picks = k.1; header_is = k.2 })
+
+pub no_item : (o : Option ℕ) → None ≡ header o → o ≡ None
+no_item None e = refl
+no_item (Some j) e = cannot (cc)
 
 module _ (P : Problem) (s : List Level) where
-  walk_solved : (a : ℕ) → pick P (chosen s) ≡ none → walk P (pick P) a s ≡ stop solution s
+  walk_solved : (a : ℕ) → pick P (chosen s) ≡ None → walk P (pick P) a s ≡ stop solution s
   unfolding walk
   walk_solved zero e = rw e refl
   walk_solved (suc a) e = rw e refl
 
-  walk_waits : (a j : ℕ) → a ≡ 0 → pick P (chosen s) ≡ some j → walk P (pick P) a s ≡ stop paused s
+  walk_waits : (a j : ℕ) → a ≡ 0 → pick P (chosen s) ≡ Some j → walk P (pick P) a s ≡ stop paused s
   unfolding walk
   walk_waits a j z e = rw (z, e) refl
 
-  walk_visits : (a b j : ℕ) → a ≡ suc b → pick P (chosen s) ≡ some j → walk P (pick P) a s ≡ visiting (length s) (follow (enter P s j) (λ t. walk P (pick P) b t))
+  walk_visits : (a b j : ℕ) → a ≡ suc b → pick P (chosen s) ≡ Some j → walk P (pick P) a s ≡ visiting (length s) (follow (enter P s j) (λ t. walk P (pick P) b t))
   unfolding walk
   walk_visits a b j z e = rw (z, e) refl
 
@@ -220,15 +226,15 @@ module _ {P : Problem} {n : ℕ} {s₀ : List Level} {profile₀ : List ℕ} {u�
   T = told (walk P (pick P) allowance s₀) u₀ 0 profile₀
 
   -- no item is open
-  pub solved : pick P (chosen R.rest.s) ≡ none → T ≡ told (stop solution R.rest.s) u visits profile
+  pub solved : pick P (chosen R.rest.s) ≡ None → T ≡ told (stop solution R.rest.s) u visits profile
   solved e = R.rest.same ∙ ap (λ (w : Walk). told w u visits profile) (walk_solved P R.rest.s (allowance - visits) e)
 
   -- the allowance is spent
-  pub waits : {j : ℕ} → pick P (chosen R.rest.s) ≡ some j → visits ≡ allowance → T ≡ told (stop paused R.rest.s) u visits profile
+  pub waits : {j : ℕ} → pick P (chosen R.rest.s) ≡ Some j → visits ≡ allowance → T ≡ told (stop paused R.rest.s) u visits profile
   waits {j} e z = R.rest.same ∙ ap (λ (w : Walk). told w u visits profile) (walk_waits P R.rest.s (allowance - visits) j (omega arith) e)
 
   -- a visit
-  pub visits_one : {j : ℕ} → pick P (chosen R.rest.s) ≡ some j → visits ≢ allowance
+  pub visits_one : {j : ℕ} → pick P (chosen R.rest.s) ≡ Some j → visits ≢ allowance
       → T ≡ told (follow (enter P R.rest.s j) (λ t. walk P (pick P) (allowance - (visits + 1)) t)) u (visits + 1) (bumped profile l)
   visits_one {j} e ne =
       let b : ℕ = allowance - (visits + 1) in
@@ -241,9 +247,11 @@ module _ {P : Problem} {n : ℕ} {s₀ : List Level} {profile₀ : List ℕ} {u�
   pub profile_room : {j i : ℕ} → Taking P n R.rest.s j t path l i → l < length profile
   profile_room K = omega (arith, entry_room K, path_long K.on, R.counts.long)
 
-  module _ {j i : ℕ} (K : Taking P n R.rest.s j t path l i) (ne : visits ≢ allowance) (t' path' : List ℤ) {profile' : List ℕ} (r : Way)
+  module _ {j i : ℕ} (K : Taking P n R.rest.s j t path l i) (ne : visits ≢ allowance)
+      (t' path' : List ℤ) {profile' : List ℕ} (r : Option (ℕ × ℕ))
       (G : Gone P n (enter P R.rest.s j) t' path' r) (h : profile' ≡ bumped profile l) where
-    pub visited_on : {k a u' : ℕ} → r ≡ Ways.To k a → u' ≡ capped u a → Running P n s₀ profile₀ u₀ allowance t' path' profile' k u' (visits + 1)
+    pub visited_on : {k a u' : ℕ} → r ≡ Some (k, a) → u' ≡ capped u a
+        → Running P n s₀ profile₀ u₀ allowance t' path' profile' k u' (visits + 1)
     visited_on f g = rw h (record {
       small = omega arith;
       counts = bumped_fits l R.counts;
@@ -251,7 +259,8 @@ module _ {P : Problem} {n : ℕ} {s₀ : List Level} {profile₀ : List ℕ} {u�
       rest = goes_on (enter P R.rest.s j) (allowance - (visits + 1)) u (visits + 1) (bumped profile l) (visits_one K.picked.picks ne) t' path' r G f g;
     })
 
-    pub visited_out : {st : State} → r ≡ Ways.Out → st ≡ record { phase = Phases.Done; depth = 0; updates = u } → Ends P n T t' path' profile' (next_answer exhausted st (visits + 1))
+    pub visited_out : {st : State} → r ≡ None → st ≡ record { phase = Phases.Done; depth = 0; updates = u }
+        → Ends P n T t' path' profile' (next_answer exhausted st (visits + 1))
     visited_out f g =
         let q = goes_out (enter P R.rest.s j) (allowance - (visits + 1)) u (visits + 1) (bumped profile l) (visits_one K.picked.picks ne) t' path' r G f in
         rw (q.0, h) (stopped exhausted u (visits + 1) R.small (bumped_fits l R.counts) q.1 g)
@@ -277,9 +286,16 @@ module _ {P : Problem} {n : ℕ} (a : ℕ) (ph : Phase) (st : State) (s : List L
   from_solution e N {st'} u R =
       rw e (ends_ran (follow (retreat P s) (λ x. walk P (pick P) a x)) st (rw (N.same, u) (ran_ends (walk P (pick P) a N.s) st' R)))
 
+-- the point where it leads on
+pub retreat_on : {P : Problem} {n : ℕ} (a : ℕ) (s : List Level) (u : ℕ) (profile : List ℕ) {t path : List ℤ}
+    {r : Option (ℕ × ℕ)} → Gone P n (retreat P s) t path r → {k b u' : ℕ} → r ≡ Some (k, b) → u' ≡ capped u b
+    → Onward P n (told (follow (retreat P s) (λ x. walk P (pick P) a x)) u 0 profile) a t path k u' 0 profile
+retreat_on {P} a s u profile {t} {path} {r} G e f = goes_on (retreat P s) a u 0 profile refl t path r G e f
+
 -- and where it leads nowhere
-pub from_last : {P : Problem} {n : ℕ} (a : ℕ) (ph : Phase) (st : State) (s : List Level) {np : ℕ} {profile : List ℕ} (t path : List ℤ) (w : Way) {r : State} → ph ≡ Phases.Solution → st.updates ≤ cap → Profile np profile
-    → Gone P n (retreat P s) t path w → w ≡ Ways.Out → r ≡ record { phase = Phases.Done; depth = 0; updates = st.updates }
+pub from_last : {P : Problem} {n : ℕ} (a : ℕ) (ph : Phase) (st : State) (s : List Level) {np : ℕ} {profile : List ℕ}
+    (t path : List ℤ) (w : Option (ℕ × ℕ)) {r : State} → ph ≡ Phases.Solution → st.updates ≤ cap → Profile np profile
+    → Gone P n (retreat P s) t path w → w ≡ None → r ≡ record { phase = Phases.Done; depth = 0; updates = st.updates }
     → Ran P n (resume P (pick P) a ph s) (started_in ph st) profile t path profile (next_answer exhausted r 0)
 unfolding resume
 from_last {P} a ph st s {profile = profile} t path w e h p G f g =

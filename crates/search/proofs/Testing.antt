@@ -1,22 +1,26 @@
 -- Whether table, path and state are a point.
 use mathlib.Core.Path.{◌≡◌, refl, sym, ap, ◌∙◌}
 use mathlib.Core.Logic.{◌≢◌}
-use mathlib.Core.Bool.{Bool, true, false, not, ◌&&◌, cond}
-use mathlib.Core.Option.{Option, none, some}
+use mathlib.Core.Bool.{Bool, true, false, ◌&&◌, cond}
+use Rattle.std.specs.Prelude.{Option, None, Some}
 use mathlib.Core.List.{List, [], ◌∷◌}
-use Prim.Native.Nat.{ℕ, suc, ◌+◌, ◌≤◌, ◌<◌}
+use Prim.Native.Nat.{ℕ, suc, ◌+◌, ◌≤◌}
 use native.Mathlib.Omega.{arith}
-use native.Mathlib.Numerals.{add-one}
 use lib.Dec.{eqb, eqb→eq, leb→le}
 use borrow.Author.Tests.{eq-eqb, ne_eqb}
 use lib.IntN.{ℤ, pos, negsuc}
-use lib.ListN.{length, take, drop, length-take, drop_of_length-le}
-use lib.Seq.{drop-cons}
+use lib.ListN.{length, take, drop, length-take}
+use Rattle.std.specs.Cmp.Lexicographic.{pointwise}
+use Rattle.std.specs.Ordering.{int_eq}
+use Rattle.std.specs.Bool.{Decides}
+use Rattle.std.specs.List.{list_all}
+use Rattle.std.proofs.lemmas.Bool.Decides.{Decides-int_eq, same_from_decides}
+use Rattle.laws.specs.Lists.{cannot}
 use Rattle.rules.specs.declared.Phase.{Phase}
 use Rattle.rules.specs.declared.Phase.TheVariants as Phases
 use Rattle.rules.specs.declared.State.{State}
 use Rattle.rules.specs.Lists.{each, when, got}
-use Rattle.rules.specs.Words.{word, same, same_words}
+use Rattle.rules.specs.Words.{same, same_words}
 use Rattle.rules.specs.Problem.{Problem}
 use Rattle.rules.specs.Order.{pick}
 use Rattle.rules.specs.Links.{table}
@@ -24,46 +28,36 @@ use Rattle.rules.specs.Walk.{Level, made, chosen}
 use Rattle.rules.specs.Calls.{deeper, phase_fits, depth_fits, levels, in_phase, path_point, in_table, point}
 use Rattle.search.specs.declared.point.Reach.{Reach}
 use Rattle.search.specs.Points.{At, header}
-use Rattle.search.specs.Replays.{phase_by, meant_by, Trailed, go_on, follows, reach, PathPoint}
+use Rattle.search.specs.Replays.{meant_by, Trailed, go_on, follows, reach, PathPoint}
 
--- ---- `same_words` and `zeros_from`: a test of each place, from one on
+-- ---- the words
 
-module _ (s t : List ℤ) (e : length s ≡ length t) (k : ℕ) where
-  abbrev rest : ℕ → Bool
-  rest i = same_words (drop i s) (drop i t)
+same_decides : (x y : ℤ) → Decides (same x y) (x ≡ y)
+same_decides (pos a) (pos b) = (λ e. ap pos (eqb→eq a b (rw e tt)), λ e. eq-eqb a b (cc))
+same_decides (pos a) (negsuc b) = (λ e. cannot (cc), λ e. cannot (cc))
+same_decides (negsuc a) (pos b) = (λ e. cannot (cc), λ e. cannot (cc))
+same_decides (negsuc a) (negsuc b) = (λ e. ap negsuc (eqb→eq a b (rw e tt)), λ e. eq-eqb a b (cc))
 
-  same_drop : k < length s → rest k ≡ (same (word s k) (word t k) && rest (k + 1))
-  unfolding same_words
-  same_drop h = rw (add-one k, drop-cons s k (pos 0) h, drop-cons t k (pos 0) (omega arith)) refl
+pub same_is : (x y : ℤ) → int_eq x y ≡ same x y
+same_is x y = same_from_decides (int_eq x y) (same x y) (Decides-int_eq x y) (same_decides x y)
 
-  pub same_next : k < length s → same (word s k) (word t k) ≡ true → same_words s t ≡ rest k → same_words s t ≡ rest (k + 1)
-  same_next h u w = w ∙ same_drop h ∙ ap (λ (b : Bool). b && rest (k + 1)) u
+-- `==` of slices
+pub words_same : (s t : List ℤ) → pointwise int_eq s t ≡ same_words s t
+unfolding same_words
+words_same [] [] = refl
+words_same [] (y ∷ ys) = refl
+words_same (x ∷ xs) [] = refl
+words_same (x ∷ xs) (y ∷ ys) = rw (same_is x y, words_same xs ys) refl
 
-  pub same_stop : k < length s → same (word s k) (word t k) ≡ false → same_words s t ≡ rest k → false ≡ same_words s t
-  same_stop h u w = sym (w ∙ same_drop h ∙ ap (λ (b : Bool). b && rest (k + 1)) u)
-
-  pub same_end : length s ≤ k → same_words s t ≡ rest k → true ≡ same_words s t
-  unfolding same_words
-  same_end h w = sym (w ∙ rw (drop_of_length-le s h, drop_of_length-le t {i = k} (omega arith)) refl)
+-- `all` over them
+pub each_same : (xs : List ℤ) → list_all (λ w. int_eq w (pos 0)) xs ≡ each (λ w. same w (pos 0)) xs
+unfolding each
+each_same [] = refl
+each_same (x ∷ xs) = rw (same_is x (pos 0), each_same xs) refl
 
 -- the words from k on are 0
 abbrev pub zeros : List ℤ → ℕ → Bool
 zeros xs k = each (λ w. same w (pos 0)) (drop k xs)
-
-module _ (xs : List ℤ) (k : ℕ) where
-  zeros_drop : k < length xs → zeros xs k ≡ (same (word xs k) (pos 0) && zeros xs (k + 1))
-  unfolding each
-  zeros_drop h = rw (add-one k, drop-cons xs k (pos 0) h) refl
-
-  pub zeros_next : {b : Bool} → k < length xs → same (word xs k) (pos 0) ≡ true → b ≡ zeros xs k → b ≡ zeros xs (k + 1)
-  zeros_next h u w = w ∙ zeros_drop h ∙ ap (λ (c : Bool). c && zeros xs (k + 1)) u
-
-  pub zeros_stop : {b : Bool} → k < length xs → same (word xs k) (pos 0) ≡ false → b ≡ zeros xs k → false ≡ b
-  zeros_stop h u w = sym (w ∙ zeros_drop h ∙ ap (λ (c : Bool). c && zeros xs (k + 1)) u)
-
-  pub zeros_end : {b : Bool} → length xs ≤ k → b ≡ zeros xs k → true ≡ b
-  unfolding each
-  zeros_end h w = sym (w ∙ rw (drop_of_length-le xs {i = k} h) refl)
 
 -- ---- `path_point`
 
@@ -72,11 +66,12 @@ depth_le Phases.Ready np d e = leb→le d np (rw e tt)
 depth_le Phases.Solution np d e = leb→le d np (rw e tt)
 depth_le Phases.Done np d e = let z = eqb→eq d 0 (rw e tt) in omega arith
 
-phase_same : (ph : Phase) (o : Option ℕ) → phase_fits ph o ≡ phase_by ph (header o)
-phase_same Phases.Ready none = refl
-phase_same Phases.Ready (some j) = sym (ap not (ne_eqb (suc j) 0 (λ e. omega arith)))
-phase_same Phases.Solution none = refl
-phase_same Phases.Solution (some j) = sym (ne_eqb (suc j) 0 (λ e. omega arith))
+-- a header is as good as its item
+phase_same : (ph : Phase) (o : Option ℕ) → phase_fits ph (header o) ≡ phase_fits ph o
+phase_same Phases.Ready None = refl
+phase_same Phases.Ready (Some j) = refl
+phase_same Phases.Solution None = refl
+phase_same Phases.Solution (Some j) = refl
 phase_same Phases.Done o = refl
 
 levels_word : (P : Problem) (z : ℤ) (zs : List ℤ) (s : List Level)
@@ -87,7 +82,7 @@ levels_word P (negsuc q) zs s = refl
 
 -- a path has levels where each of its words makes one
 levels_are : (P : Problem) (zs : List ℤ) (s : List Level)
-    → levels P (pick P) zs s ≡ when (eqb (length (follows P zs s)) (length zs + length s)) (some (follows P zs s))
+    → levels P (pick P) zs s ≡ when (eqb (length (follows P zs s)) (length zs + length s)) (Some (follows P zs s))
 unfolding levels follows
 levels_are P [] s = rw (eq-eqb (length s) (0 + length s) (omega arith)) refl
 levels_are P (z ∷ zs) s = levels_word P z zs s ∙ step (meant_by P s z) (λ t. levels_are P zs t)
@@ -97,15 +92,15 @@ levels_are P (z ∷ zs) s = levels_word P z zs s ∙ step (meant_by P s z) (λ t
 
     step : (o : Option Level)
         → ((t : List Level)
-        → levels P (pick P) zs t ≡ when (eqb (length (rest t)) (length zs + length t)) (some (rest t)))
+        → levels P (pick P) zs t ≡ when (eqb (length (rest t)) (length zs + length t)) (Some (rest t)))
         → deeper o s (λ t. levels P (pick P) zs t)
-        ≡ when (eqb (length (go_on o s rest)) (suc (length zs) + length s)) (some (go_on o s rest))
-    step none rec = rw (ne_eqb (length s) (suc (length zs) + length s) (λ e. omega arith)) refl
-    step (some v) rec =
+        ≡ when (eqb (length (go_on o s rest)) (suc (length zs) + length s)) (Some (go_on o s rest))
+    step None rec = rw (ne_eqb (length s) (suc (length zs) + length s) (λ e. omega arith)) refl
+    step (Some v) rec =
         let k : length zs + suc (length s) ≡ suc (length zs) + length s = omega arith in
-        rec (v ∷ s) ∙ ap (λ (m : ℕ). when (eqb (length (rest (v ∷ s))) m) (some (rest (v ∷ s)))) k
+        rec (v ∷ s) ∙ ap (λ (m : ℕ). when (eqb (length (rest (v ∷ s))) m) (Some (rest (v ∷ s)))) k
 
-got_when : {A : Type 0} (b : Bool) (x : A) → got (when b (some x)) ≡ b
+got_when : {A : Type 0} (b : Bool) (x : A) → got (when b (Some x)) ≡ b
 got_when true x = refl
 got_when false x = refl
 
@@ -145,23 +140,23 @@ module _ (P : Problem) {n : ℕ} (st : State) (path : List ℤ) (long : length p
     is_reach = rw is_stated O
 
     is_point : path_point P (pick P) st path
-        ≡ in_phase P (pick P) st.phase (when (eqb l st.depth) (some (follows P (take st.depth path) [])))
+        ≡ in_phase P (pick P) st.phase (when (eqb l st.depth) (Some (follows P (take st.depth path) [])))
     unfolding path_point
     is_point =
         let k : length (take st.depth path) + 0 ≡ st.depth =
         omega (arith, length-take st.depth path, depth_le st.phase (length path) st.depth d) in
         rw (is_stated, levels_are P (take st.depth path) [], k, O.level) refl
 
-    pub bad_path : l ≢ st.depth → PathPoint P n st t path (record { fits = false; level = l })
+    pub bad_path : l ≢ st.depth → PathPoint P n st t path (record { fits = eqb l st.depth; level = l })
     bad_path h = record { fits = rw (is_point, ne_eqb l st.depth h) refl; on = is_reach }
 
-    pub good_path : {i : ℕ} {b : Bool} → l ≡ st.depth
-        → i ≡ header (pick P (chosen (follows P (take st.depth path) []))) → b ≡ phase_by st.phase i
+    pub good_path : {i : Option ℕ} {b : Bool} → l ≡ st.depth
+        → i ≡ header (pick P (chosen (follows P (take st.depth path) []))) → b ≡ phase_fits st.phase i
         → PathPoint P n st t path (record { fits = b; level = l })
     good_path u h f =
         let s : List Level = follows P (take st.depth path) [] in
         let o : Option ℕ = pick P (chosen s) in
-        let g = f ∙ ap (phase_by st.phase) h ∙ sym (phase_same st.phase o) in
+        let g = f ∙ ap (phase_fits st.phase) h ∙ phase_same st.phase o in
         record {
           fits = rw (is_point, eq-eqb l st.depth u) (g ∙ sym (got_when (phase_fits st.phase o) s));
           on = is_reach;
@@ -171,7 +166,7 @@ module _ (P : Problem) {n : ℕ} (st : State) (path : List ℤ) (long : length p
 
 -- the point of state and path, if they are one, is that of the levels made
 at_reach : (P : Problem) (st : State) (path : List ℤ)
-    → path_point P (pick P) st path ≡ when (got (path_point P (pick P) st path)) (some (reach P st path))
+    → path_point P (pick P) st path ≡ when (got (path_point P (pick P) st path)) (Some (reach P st path))
 unfolding path_point reach
 at_reach P st path =
     rw (levels_are P (take st.depth path) [])
@@ -180,12 +175,12 @@ at_reach P st path =
     s : List Level
     s = follows P (take st.depth path) []
 
-    by : (b : Bool) → when b (some s) ≡ when (got (when b (some s))) (some s)
+    by : (b : Bool) → when b (Some s) ≡ when (got (when b (Some s))) (Some s)
     by true = refl
     by false = refl
 
-    step : (b c : Bool) → let o : Option (List Level) = when b (in_phase P (pick P) st.phase (when c (some s))) in
-        o ≡ when (got o) (some (cond b s []))
+    step : (b c : Bool) → let o : Option (List Level) = when b (in_phase P (pick P) st.phase (when c (Some s))) in
+        o ≡ when (got o) (Some (cond b s []))
     step true true = by (phase_fits st.phase (pick P (chosen s)))
     step true false = refl
     step false c = refl
@@ -194,13 +189,13 @@ pub point_is : {P : Problem} {n : ℕ} {st : State} (t : List ℤ) {spare path :
     → PathPoint P n st spare path r → (r.fits && same_words t spare) ≡ got (point P (pick P) st t path)
 unfolding point
 point_is {P} {st = st} t {path = path} {r = r} K =
-    let e : path_point P (pick P) st path ≡ when r.fits (some s) =
-    at_reach P st path ∙ ap (λ (b : Bool). when b (some s)) (sym K.fits) in
+    let e : path_point P (pick P) st path ≡ when r.fits (Some s) =
+    at_reach P st path ∙ ap (λ (b : Bool). when b (Some s)) (sym K.fits) in
     rw (K.on.at.is, e) (step r.fits)
   where
     s : List Level
     s = reach P st path
 
-    step : (b : Bool) → (b && same_words t (table P (made s))) ≡ got (in_table P (pick P) t (when b (some s)))
+    step : (b : Bool) → (b && same_words t (table P (made s))) ≡ got (in_table P (pick P) t (when b (Some s)))
     step true = sym (got_when (same_words t (table P (made s))) s)
     step false = refl

@@ -1,15 +1,12 @@
 -- The walk to a solution, solution by solution. Assumes nothing.
 use mathlib.Core.Path.{◌≡◌, refl, sym, ap, ◌∙◌}
-use mathlib.Core.Option.{Option, none, some}
-use mathlib.Core.List.{List, [], ◌∷◌}
-use Prim.Native.Nat.{ℕ, zero, suc, ◌+◌, ◌-◌, ◌≤◌, ◌<◌}
+use Rattle.std.specs.Prelude.{Option, None, Some}
+use mathlib.Core.List.{List, []}
+use Prim.Native.Nat.{ℕ, zero, suc, ◌+◌, ◌-◌, ◌≤◌}
 use native.Mathlib.Omega.{arith}
-use denote.Enum.Declared as Declared
 use lib.IntN.{ℤ}
 use lib.ListN.{length}
-use types.Run.{OneOf}
 use Rattle.rules.specs.declared.NextAnswer.{NextAnswer}
-use Rattle.rules.specs.contracts.NextAnswer as NextTypes
 use Rattle.rules.specs.declared.NextAnswer.TheVariants as NextSays
 use Rattle.rules.specs.declared.Phase.{Phase}
 use Rattle.rules.specs.declared.Phase.TheVariants.{Ready, Solution, Done}
@@ -17,33 +14,33 @@ use Rattle.rules.specs.declared.State.{State}
 use Rattle.rules.specs.Problem.{Problem}
 use Rattle.rules.specs.Order.{Rule, pick}
 use Rattle.rules.specs.Walk.{Level, Move, Walk, End, solution, exhausted, paused, chosen, retreat, enter, stop, visiting, follow, at_point, walk, resume}
-use Rattle.rules.specs.Calls.{cap, capped, profile_from, blank, started}
+use Rattle.rules.specs.Calls.{cap, capped, profile_from, started}
 use Rattle.rules.specs.Door.{past, walk_to}
 use Rattle.laws.specs.Reached.{joined}
 use Rattle.laws.specs.Lists.{cannot}
-use Rattle.search.specs.Points.{On, Profile, Ran, Begun}
+use Rattle.search.specs.Points.{Profile, Ran, Begun}
 use Rattle.search.specs.Arrived.{whole_to, Arrived, solved, unsolved, on_level}
 use Rattle.search.proofs.Running.{profile_fits, profile_then}
 
 -- ---- the allowance
 
 follow_few : (o : Option Move) (k : List Level → Walk) (a : ℕ) → ((t : List Level) → length (k t).visited ≤ a) → length (follow o k).visited ≤ a
-follow_few none k a h = omega arith
-follow_few (some m) k a h = h m.to
+follow_few None k a h = omega arith
+follow_few (Some m) k a h = h m.to
 
 walk_few : (P : Problem) (rule : Rule) (a : ℕ) (s : List Level) → length (walk P rule a s).visited ≤ a
 unfolding walk
 walk_few P rule zero s = by (rule (chosen s))
   where
     by : (o : Option ℕ) → length (at_point s o (λ i. stop paused s)).visited ≤ 0
-    by none = omega arith
-    by (some i) = omega arith
+    by None = omega arith
+    by (Some i) = omega arith
 walk_few P rule (suc a) s = by (rule (chosen s)) (λ t. walk_few P rule a t)
   where
     by : (o : Option ℕ) → ((t : List Level) → length (walk P rule a t).visited ≤ a)
         → length (at_point s o (λ i. visiting (length s) (follow (enter P s i) (λ t. walk P rule a t)))).visited ≤ suc a
-    by none rec = omega arith
-    by (some i) rec = let f = follow_few (enter P s i) (λ t. walk P rule a t) a rec in omega arith
+    by None rec = omega arith
+    by (Some i) rec = let f = follow_few (enter P s i) (λ t. walk P rule a t) a rec in omega arith
 
 -- a walk makes no more visits than it is allowed
 resume_few : (P : Problem) (rule : Rule) (a : ℕ) (ph : Phase) (s : List Level) → length (resume P rule a ph s).visited ≤ a
@@ -67,21 +64,19 @@ module _ (P : Problem) (rule : Rule) (k a : ℕ) (ph : Phase) (s : List Level) w
   walk_last z = (rw z refl, rw z refl)
 
 -- where it ended at a solution, the next one begins there
-walk_on : (P : Problem) (rule : Rule) (k a : ℕ) (ph : Phase) (s : List Level) → 0 < k → (first P rule k a ph s).end ≡ solution
+walk_on : (P : Problem) (rule : Rule) (k k' a : ℕ) (ph : Phase) (s : List Level) → k ≡ suc k'
+    → (first P rule k a ph s).end ≡ solution
     → let w : Walk = first P rule k a ph s in
     let b : ℕ = a - length w.visited in
-    (walk_to P rule k a ph s ≡ walk_to P rule (k - 1) b Solution w.at)
-    × (whole_to P rule k a ph s ≡ joined w (whole_to P rule (k - 1) b Solution w.at))
+    (walk_to P rule k a ph s ≡ walk_to P rule k' b Solution w.at)
+    × (whole_to P rule k a ph s ≡ joined w (whole_to P rule k' b Solution w.at))
 unfolding walk_to whole_to
-walk_on P rule zero a ph s z e = absurd (omega arith)
-walk_on P rule (suc k) a ph s z e =
+walk_on P rule k k' a ph s z e =
     let w : Walk = resume P rule a ph s in
     let b : ℕ = a - length w.visited in
-    let u : k ≡ suc k - 1 = omega arith in (
-      ap (λ (x : End). past x w (λ t. walk_to P rule k b Solution t)) e
-          ∙ ap (λ (i : ℕ). walk_to P rule i b Solution w.at) u,
-      ap (λ (x : End). past x w (λ t. joined w (whole_to P rule k b Solution t))) e
-          ∙ ap (λ (i : ℕ). joined w (whole_to P rule i b Solution w.at)) u,
+    rw z (
+      ap (λ (x : End). past x w (λ t. walk_to P rule k' b Solution t)) e,
+      ap (λ (x : End). past x w (λ t. joined w (whole_to P rule k' b Solution t))) e,
     )
 
 walk_stop : (P : Problem) (rule : Rule) (k a : ℕ) (ph : Phase) (s : List Level)
@@ -120,19 +115,6 @@ pub record Walking (P : Problem) (n number allowance : ℕ) (profile₀ : List �
       profile_from 0 (whole_to P (pick P) number allowance Ready []).visited profile₀
       ≡ profile_from 0 (whole_to P (pick P) ahead left state.phase s).visited profile
 
-pub walk_start : {P : Problem} {n : ℕ} (number allowance : ℕ) {t path : List ℤ} {profile : List ℕ} → On P n [] t path 0
-    → Profile (length path) profile → {state : State} → state ≡ blank
-    → Walking P n number allowance profile t path profile state allowance number
-walk_start number allowance O p e = rw e (record {
-  s = [];
-  begun = record { on = O; done_top = λ e. refl };
-  counts = p;
-  small = omega arith;
-  same = refl;
-  sum = refl;
-  told = refl;
-})
-
 module _ {P : Problem} {n number allowance : ℕ} {profile₀ : List ℕ} {t path : List ℤ} {profile : List ℕ} {state : State}
     {left ahead : ℕ} (W : Walking P n number allowance profile₀ t path profile state left ahead) where
   abbrev pub piece : Walk
@@ -154,23 +136,23 @@ module _ {P : Problem} {n number allowance : ℕ} {profile₀ : List ℕ} {t pat
     pub walk_ends : ahead ≡ 0 → Arrives t' path' profile' r
     walk_ends z = arrives (walk_last P (pick P) ahead left state.phase W.s z)
 
-    pub walk_stops : OneOf (1 ∷ 2 ∷ 3 ∷ []) (Declared.tag_of NextTypes.the_type r) → Arrives t' path' profile' r
+    pub walk_stops : ((at : State) (v : ℕ) → r ≡ NextSays.Solution at v → ⊥) → Arrives t' path' profile' r
     walk_stops k = arrives (walk_stop P (pick P) ahead left state.phase W.s (unsolved piece (started state) R.answer k))
 
     module _ {at : State} {v : ℕ} (q : r ≡ NextSays.Solution at v) where
       pub visits_few : v ≤ left
       visits_few = omega (arith, (solved piece (started state) R.answer q).2, resume_few P (pick P) left state.phase W.s)
 
-      pub walk_turns : (ahead ≡ 0 → ⊥) → length path' ≡ length path
+      pub walk_turns : {ahead' : ℕ} → ahead ≡ suc ahead' → length path' ≡ length path
           → Walking P n number allowance profile₀ t' path' profile'
-          (record { phase = Solution; depth = at.depth; updates = at.updates }) (left - v) (ahead - 1)
-      walk_turns z l =
+          (record { phase = Solution; depth = at.depth; updates = at.updates }) (left - v) ahead'
+      walk_turns {ahead'} z l =
           let (e, a, u) = solved piece (started state) R.answer q in
           let d : at.depth ≡ length piece.at = ap (λ (x : State). x.depth) a in
           let b : at.updates ≡ capped (started state).updates piece.updates = ap (λ (x : State). x.updates) a in
           let c : Profile (length path) profile' = rw R.profile_is (profile_fits piece.visited W.counts) in
-          let (o, p) = walk_on P (pick P) ahead left state.phase W.s (omega arith) e in
-          let next : ℕ → Walk = λ i. whole_to P (pick P) (ahead - 1) (left - i) Solution piece.at in
+          let (o, p) = walk_on P (pick P) ahead ahead' left state.phase W.s z e in
+          let next : ℕ → Walk = λ i. whole_to P (pick P) ahead' (left - i) Solution piece.at in
           let more : Walk = next (length piece.visited) in
           let f : capped (started state).updates (piece.updates + more.updates)
           ≡ capped at.updates more.updates = omega arith in
@@ -181,7 +163,7 @@ module _ {P : Problem} {n number allowance : ℕ} {profile₀ : List ℕ} {t pat
             small = omega arith;
             same =
                 W.same ∙ o
-                ∙ ap (λ (i : ℕ). walk_to P (pick P) (ahead - 1) (left - i) Solution piece.at) (sym u);
+                ∙ ap (λ (i : ℕ). walk_to P (pick P) ahead' (left - i) Solution piece.at) (sym u);
             sum =
                 W.sum ∙ ap (λ (w : Walk). capped (started state).updates w.updates) p ∙ f
                 ∙ ap (λ (i : ℕ). capped at.updates (next i).updates) (sym u);

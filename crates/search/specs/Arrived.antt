@@ -1,11 +1,8 @@
 -- Where the walk to a solution arrives, with the visits and updates of all the walks on the way, and what an answer
 -- tells of a walk's end.
-use Rattle.std.specs.Prelude.{◌≡◌, refl, List, [], ◌∷◌, ℕ, zero, suc, ◌-◌, ℤ, length}
-use Rattle.std.proofs.Common.{ap, ◌∙◌, ⊎_elim, arith}
-use denote.Enum.Declared as Declared
-use types.Run.{OneOf}
+use Rattle.std.specs.Prelude.{◌≡◌, refl, List, ℕ, zero, suc, ◌-◌, ℤ, length}
+use Rattle.std.proofs.Common.{ap, ◌∙◌}
 use Rattle.rules.specs.declared.NextAnswer.{NextAnswer}
-use Rattle.rules.specs.contracts.NextAnswer as NextTypes
 use Rattle.rules.specs.declared.NextAnswer.TheVariants as NextSays
 use Rattle.rules.specs.declared.Phase.{Phase}
 use Rattle.rules.specs.declared.Phase.TheVariants.{Solution}
@@ -57,16 +54,11 @@ arrived_at {w = w} {whole = whole} A {at} q =
     let s = solved last blank A.answer q in
     (s.0, ap (λ (x : State). x.depth) s.1)
 
--- an answer of another kind is no solution
-pub other : OneOf (1 ∷ 2 ∷ 3 ∷ []) 0 → ⊥
-other k = ⊎_elim (λ a. omega arith) (λ m. ⊎_elim (λ a. omega arith) (λ a. omega arith) m) k
-
 -- a walk that answers anything else ended elsewhere
 pub unsolved : (w : Walk) (st : State) {r : NextAnswer} → r ≡ next_answer w.end (moved st w) (length w.visited)
-    → OneOf (1 ∷ 2 ∷ 3 ∷ []) (Declared.tag_of NextTypes.the_type r) → w.end ≡ solution → ⊥
-unsolved w st {r} p k e =
-    let q : r ≡ NextSays.Solution (moved st w) (length w.visited) = p ∙ ap (λ (x : End). next_answer x (moved st w) (length w.visited)) e in
-    other (rw q at k)
+    → ((at : State) (v : ℕ) → r ≡ NextSays.Solution at v → ⊥) → w.end ≡ solution → ⊥
+unsolved w st p n e =
+    n (moved st w) (length w.visited) (p ∙ ap (λ (x : End). next_answer x (moved st w) (length w.visited)) e)
 
 pub on_level : {P : Problem} {n : ℕ} {s : List Level} {t path : List ℤ} {l k : ℕ} → On P n s t path l → k ≡ length s → On P n s t path k
 on_level O e = record { at = O.at; path_is = O.path_is; level = e }

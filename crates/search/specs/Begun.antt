@@ -1,8 +1,7 @@
 -- What the tests of a call tell: the words that pass the test for 10 are those of a point, and counts that pass the test for 11 are within the cap.
 use Rattle.std.proofs.Math.Path.{◌≡◌, sym, ap}
-use Rattle.std.specs.Prelude.{refl, Bool, true, false, ◌&&◌, cond, ℕ, zero, suc, ◌+◌, ◌-◌, ◌≤◌, ◌<◌, T, eqb, leb, ℤ, pos, negsuc, get_or, take, drop, replicate}
+use Rattle.std.specs.Prelude.{refl, Bool, true, false, ◌&&◌, cond, ℕ, zero, suc, ◌+◌, ◌-◌, ◌≤◌, ◌<◌, T, eqb, leb, ℤ, pos, negsuc, get_or, take, drop, replicate, Option, None, Some}
 use Rattle.std.proofs.Common.{◌∙◌, arith, eqb→eq, leb→le, length-take, length-drop, take-append-drop}
-use Rattle.std.proofs.Math.Option.{Option, none, some}
 use mathlib.Core.List.{List, [], ◌∷◌, ◌++◌, append_assoc, append-nil}
 use Rattle.std.proofs.Math.ListN.{length}
 use Rattle.rules.specs.declared.Phase.{Phase}
@@ -31,12 +30,12 @@ fresh_at G h e = record { good = G; small = h; n_is = e; reached = root; is = re
 -- ---- the levels of a path
 
 -- the level found tries the choice of the node
-pub level_node : (q : ℕ) (cs : List Choice) {v : Level} → level_of q cs ≡ some v → q ≡ node v.tried
+pub level_node : (q : ℕ) (cs : List Choice) {v : Level} → level_of q cs ≡ Some v → q ≡ node v.tried
 unfolding level_of
 level_node q [] e = absurd (let z : ◌≡◌ {A = ℕ} 0 1 = cc in omega arith)
 level_node q (c ∷ cs) {v} e = step (eqb (node c) q) refl e (λ u. level_node q cs u)
   where
-    step : (b : Bool) → eqb (node c) q ≡ b → cond b (some (record { tried = c; left = cs })) (level_of q cs) ≡ some v → (level_of q cs ≡ some v → q ≡ node v.tried) → q ≡ node v.tried
+    step : (b : Bool) → eqb (node c) q ≡ b → cond b (Some (record { tried = c; left = cs })) (level_of q cs) ≡ Some v → (level_of q cs ≡ Some v → q ≡ node v.tried) → q ≡ node v.tried
     step true u e rec =
         let k : record { tried = c; left = cs } ≡ v = cc in
         sym (eqb→eq (node c) q (rw u tt)) ∙ ap (λ (w : Level). node w.tried) k
@@ -47,7 +46,7 @@ nodes_of s = in_order (λ c. pos (node c)) s
 
 module _ (P : Problem) (rule : Rule) where
   -- they try the path's nodes
-  levels_are : (qs : List ℤ) (s : List Level) {s' : List Level} → levels P rule qs s ≡ some s' → (nodes_of s' ≡ nodes_of s ++ qs) × (length s' ≡ length s + length qs)
+  levels_are : (qs : List ℤ) (s : List Level) {s' : List Level} → levels P rule qs s ≡ Some s' → (nodes_of s' ≡ nodes_of s ++ qs) × (length s' ≡ length s + length qs)
   unfolding levels in_order
   levels_are [] s {s'} e =
       let z : s ≡ s' = cc in
@@ -56,22 +55,22 @@ module _ (P : Problem) (rule : Rule) where
   levels_are (pos q ∷ qs) s {s'} e = go (rule (chosen s)) e (λ v f. levels_are qs (v ∷ s) f)
     where
       More : Level → Type 0
-      More v = levels P rule qs (v ∷ s) ≡ some s' → (nodes_of s' ≡ nodes_of (v ∷ s) ++ qs) × (length s' ≡ length (v ∷ s) + length qs)
+      More v = levels P rule qs (v ∷ s) ≡ Some s' → (nodes_of s' ≡ nodes_of (v ∷ s) ++ qs) × (length s' ≡ length (v ∷ s) + length qs)
 
       Goal : Type 0
       Goal = (nodes_of s' ≡ nodes_of s ++ pos q ∷ qs) × (length s' ≡ length s + length (pos q ∷ qs))
 
-      last : (i : ℕ) (o : Option Level) → level_of q (choices i (open_options P (chosen s))) ≡ o → deeper o s (λ t. levels P rule qs t) ≡ some s' → ((v : Level) → More v) → Goal
-      last i none f e rec = absurd (let z : ◌≡◌ {A = ℕ} 0 1 = cc in omega arith)
-      last i (some v) f e rec =
+      last : (i : ℕ) (o : Option Level) → level_of q (choices i (open_options P (chosen s))) ≡ o → deeper o s (λ t. levels P rule qs t) ≡ Some s' → ((v : Level) → More v) → Goal
+      last i None f e rec = absurd (let z : ◌≡◌ {A = ℕ} 0 1 = cc in omega arith)
+      last i (Some v) f e rec =
           let r = rec v e in (
             r.0 ∙ append_assoc (nodes_of s) (pos (node v.tried) ∷ []) qs ∙ ap (λ (k : ℕ). nodes_of s ++ pos k ∷ qs) (sym (level_node q (choices i (open_options P (chosen s))) f)),
             r.1 ∙ omega arith,
           )
 
-      go : (o : Option ℕ) → deeper (taken P rule o s q) s (λ t. levels P rule qs t) ≡ some s' → ((v : Level) → More v) → Goal
-      go none e rec = absurd (let z : ◌≡◌ {A = ℕ} 0 1 = cc in omega arith)
-      go (some i) e rec = last i (level_of q (choices i (open_options P (chosen s)))) refl e rec
+      go : (o : Option ℕ) → deeper (taken P rule o s q) s (λ t. levels P rule qs t) ≡ Some s' → ((v : Level) → More v) → Goal
+      go None e rec = absurd (let z : ◌≡◌ {A = ℕ} 0 1 = cc in omega arith)
+      go (Some i) e rec = last i (level_of q (choices i (open_options P (chosen s)))) refl e rec
 
 -- ---- a point
 
@@ -94,7 +93,7 @@ done_depth Phases.Done np d t e = eqb→eq d 0 t
 
 -- table and path of the problem's lengths, with the state, that are a point
 pub point_begun : {P : Problem} {n : ℕ} (st : State) (t path : List ℤ) {s : List Level} → Good P → nodes P < 2147483648 → n ≡ items P → length path ≡ P.np
-    → point P (pick P) st t path ≡ some s → Begun P n s t path st
+    → point P (pick P) st t path ≡ Some s → Begun P n s t path st
 unfolding point path_point path_words in_order
 point_begun {P} {n} st t path {s} G h en el e =
     let d : ℕ = st.depth in

@@ -1,6 +1,5 @@
 -- What the search knows of table and path: the point that they are of, and where a move or a walk leads.
-use Rattle.std.specs.Prelude.{◌≡◌, List, [], ◌∷◌, ℕ, suc, ◌≤◌, ◌<◌, ℤ, length, get_or}
-use Rattle.std.proofs.Math.Option.{Option, none, some}
+use Rattle.std.specs.Prelude.{◌≡◌, List, [], ◌∷◌, ℕ, suc, ◌≤◌, ◌<◌, ℤ, length, get_or, Option, None, Some, option_map}
 use Rattle.rules.specs.declared.NextAnswer.{NextAnswer}
 use Rattle.rules.specs.declared.Phase.TheVariants as Phases
 use Rattle.rules.specs.declared.State.{State}
@@ -12,10 +11,6 @@ use Rattle.rules.specs.Calls.{cap, capped, profile_from, moved, path_words, next
 use Rattle.laws.specs.Faults.{Good}
 use Rattle.laws.specs.Reached.{Reached}
 use Rattle.tables.specs.Nodes.{nodes}
-use Rattle.search.specs.declared.Way.{Way}
-use Rattle.search.specs.declared.Way.TheVariants as Ways
-use Rattle.search.specs.declared.x.Again.{Again}
-use Rattle.search.specs.declared.x.Again.TheVariants as Agains
 
 -- the table t is that of the point s, which the search reaches; a word can number the problem's nodes
 pub record At (P : Problem) (n : ℕ) (s : List Level) (t : List ℤ) : Type 0 where
@@ -37,10 +32,9 @@ pub record On (P : Problem) (n : ℕ) (s : List Level) (t path : List ℤ) (l : 
 abbrev pub SomeOn : ℕ → List ℤ → List ℤ → ℕ → Type 0
 SomeOn n t path l = (P : Problem) × (s : List Level) × On P n s t path l
 
--- the header of the item taken, 0 for none
-abbrev pub header : Option ℕ → ℕ
-header none = 0
-header (some i) = suc i
+-- the header of the item taken
+abbrev pub header : Option ℕ → Option ℕ
+header o = option_map suc o
 
 -- ---- a choice
 
@@ -64,19 +58,20 @@ abbrev pub SomeLevel : ℕ → List ℤ → List ℤ → ℕ → Type 0
 SomeLevel n t path l = (P : Problem) × (v : Level) × (above : List Level) × On P n (v ∷ above) t path (suc l)
 
 -- the level's next choice is tried
-pub record NextTried (P : Problem) (n l : ℕ) (c : Choice) (cs : List Choice) (above : List Level) (t path : List ℤ) (r : Again) : Type 0 where
+pub record NextTried (P : Problem) (n l : ℕ) (c : Choice) (cs : List Choice) (above : List Level) (t path : List ℤ)
+    (r : Option ℕ) : Type 0 where
   pub updates : ℕ
-  pub is : r ≡ Agains.Tried updates
+  pub is : r ≡ Some updates
   pub on : On P n (record { tried = c; left = cs } ∷ above) t path (suc l)
   pub counts : updates ≡ cost (try P (held (made above)) c)
 
 -- the level is taken back
-pub record Back (P : Problem) (n l : ℕ) (above : List Level) (t path : List ℤ) (r : Again) : Type 0 where
-  pub is : r ≡ Agains.Restored
+pub record Back (P : Problem) (n l : ℕ) (above : List Level) (t path : List ℤ) (r : Option ℕ) : Type 0 where
+  pub is : r ≡ None
   pub on : On P n above t path l
 
 -- what becomes of a level that has the choices `left` untried
-abbrev pub Retried : Problem → ℕ → ℕ → List Choice → List Level → List ℤ → List ℤ → Again → Type 0
+abbrev pub Retried : Problem → ℕ → ℕ → List Choice → List Level → List ℤ → List ℤ → Option ℕ → Type 0
 Retried P n l [] above t path r = Back P n l above t path r
 Retried P n l (c ∷ cs) above t path r = NextTried P n l c cs above t path r
 
@@ -91,25 +86,25 @@ SomeLast n t x = (P : Problem) × (v : Level) × (above : List Level) × Last P 
 -- ---- a move
 
 -- it leads to the point of the move m
-pub record Moved (P : Problem) (n : ℕ) (m : Move) (t path : List ℤ) (r : Way) : Type 0 where
+pub record Moved (P : Problem) (n : ℕ) (m : Move) (t path : List ℤ) (r : Option (ℕ × ℕ)) : Type 0 where
   pub updates : ℕ
-  pub is : r ≡ Ways.To (length m.to) updates
+  pub is : r ≡ Some (length m.to, updates)
   pub on : On P n m.to t path (length m.to)
   pub counts : (u : ℕ) → capped u updates ≡ capped u m.updates
 
 -- it leads nowhere: every choice is taken back
-pub record Ended (P : Problem) (n : ℕ) (t path : List ℤ) (r : Way) : Type 0 where
-  pub is : r ≡ Ways.Out
+pub record Ended (P : Problem) (n : ℕ) (t path : List ℤ) (r : Option (ℕ × ℕ)) : Type 0 where
+  pub is : r ≡ None
   pub on : On P n [] t path 0
 
-abbrev pub Gone : Problem → ℕ → Option Move → List ℤ → List ℤ → Way → Type 0
-Gone P n none t path r = Ended P n t path r
-Gone P n (some m) t path r = Moved P n m t path r
+abbrev pub Gone : Problem → ℕ → Option Move → List ℤ → List ℤ → Option (ℕ × ℕ) → Type 0
+Gone P n None t path r = Ended P n t path r
+Gone P n (Some m) t path r = Moved P n m t path r
 
 -- i is the header of the item j that the order rule takes at s
 pub record Picked (P : Problem) (n : ℕ) (s : List Level) (j : ℕ) (t : List ℤ) (i : ℕ) : Type 0 where
   pub at : At P n s t
-  pub picks : pick P (chosen s) ≡ some j
+  pub picks : pick P (chosen s) ≡ Some j
   pub header_is : i ≡ suc j
 
 abbrev pub SomePicked : ℕ → List ℤ → ℕ → Type 0

@@ -1,8 +1,5 @@
 -- A path's choices made on a table, and taken back.
-use Rattle.std.specs.Prelude.{◌≡◌, Bool, true, false, not, ◌&&◌, cond, List, [], ◌∷◌, ℕ, ◌<◌, eqb, ℤ, pos, negsuc, length, take, drop}
-use Rattle.std.proofs.Math.Option.{Option, none, some}
-use Rattle.rules.specs.declared.Phase.{Phase}
-use Rattle.rules.specs.declared.Phase.TheVariants as Phases
+use Rattle.std.specs.Prelude.{◌≡◌, Bool, true, false, ◌&&◌, cond, List, [], ◌∷◌, ℕ, ◌<◌, ℤ, pos, negsuc, length, take, drop, Option, None, Some}
 use Rattle.rules.specs.declared.State.{State}
 use Rattle.rules.specs.Lists.{each, got}
 use Rattle.rules.specs.Words.{word, same}
@@ -31,7 +28,7 @@ SomeTrailed n t path l = (P : Problem) × (s : List Level) × Trailed P n s t pa
 -- the level that a path word means below the point s
 abbrev pub meant_by : Problem → List Level → ℤ → Option Level
 meant_by P s (pos q) = taken P (pick P) (pick P (chosen s)) s q
-meant_by P s (negsuc q) = none
+meant_by P s (negsuc q) = None
 
 -- the path has a word at level l, which comes after the point s
 pub record Following (P : Problem) (n : ℕ) (s : List Level) (t path : List ℤ) (l : ℕ) : Type 0 where
@@ -44,13 +41,13 @@ SomeFollowing n t path l = (P : Problem) × (s : List Level) × Following P n s 
 -- the word's choice is made
 pub record Stepped (P : Problem) (n : ℕ) (s : List Level) (path : List ℤ) (l : ℕ) (t : List ℤ) : Type 0 where
   pub v : Level
-  pub meant : meant_by P s (word path l) ≡ some v
+  pub meant : meant_by P s (word path l) ≡ Some v
   pub node_is : word path l ≡ pos (node v.tried)
   pub at : At P n (v ∷ s) t
 
 -- the word is no choice, and nothing is done
 pub record Halted (P : Problem) (n : ℕ) (s : List Level) (path : List ℤ) (l : ℕ) (t : List ℤ) : Type 0 where
-  pub meant : meant_by P s (word path l) ≡ none
+  pub meant : meant_by P s (word path l) ≡ None
   pub at : At P n s t
 
 abbrev pub Followed : Problem → ℕ → List Level → List ℤ → ℕ → List ℤ → Bool → Type 0
@@ -64,8 +61,8 @@ SomeFresh n t = (P : Problem) × At P n [] t
 
 -- where there is a level more, what follows it; else the levels so far
 abbrev pub go_on : Option Level → List Level → (List Level → List Level) → List Level
-go_on none s k = s
-go_on (some v) s k = k (v ∷ s)
+go_on None s k = s
+go_on (Some v) s k = k (v ∷ s)
 
 -- the levels that the words make below the point s, as far as they are choices
 unfoldable pub follows : Problem → List ℤ → List Level → List Level
@@ -83,12 +80,6 @@ reach P st path =
 pub record PathPoint (P : Problem) (n : ℕ) (st : State) (t path : List ℤ) (r : Reach) : Type 0 where
   pub fits : r.fits ≡ got (path_point P (pick P) st path)
   pub on : Trailed P n (reach P st path) t path r.level
-
--- the test of a phase, by the header of the item taken
-abbrev pub phase_by : Phase → ℕ → Bool
-phase_by Phases.Ready i = not (eqb i 0)
-phase_by Phases.Solution i = eqb i 0
-phase_by Phases.Done i = true
 
 -- the spare is fresh, and the lengths are those of the problem
 pub record Testing (P : Problem) (n : ℕ) (t spare path : List ℤ) : Type 0 where

@@ -1,4 +1,6 @@
-// The search: the choice of an item in `choose`, a level in `x`, the walk here, and in `point` the test whether lent words are a point.
+// The search: the choice of an item in `choose`, a level in `x`, the walk here, and in `point` the test whether lent words
+// are a point. Table, path, profile and n stay parameters: behind a `&mut` field no word is known after a call, and the
+// proofs didn't close (as in `links`).
 #![tactic(auto)]
 
 pub mod choose;
@@ -18,34 +20,26 @@ ghost use Rattle.search.specs.Points.{On, SomeOn, Gone, Taking, SomeTaking, Prof
 ghost use Rattle.search.specs.Arrived.{whole_to, Arrived};
 
 use crate::choose::choose;
-use crate::x::{Again, try_again, try_item};
+use crate::x::{try_again, try_item};
 use rules::{NextAnswer, Phase, State};
 
-// Where a move leads: to a point at a level, with its updates, or nowhere, with every choice taken back.
-#[derive(Clone, Copy)]
-pub enum Way {
-    To(usize, u64),
-    Out,
-}
+// A move leads to a point, whose level and updates are the result, or nowhere, with every choice taken back.
 
 // To the next choice at the deepest level that has one left. The point is at level `depth`.
-fn retreat(t: &mut [i32], path: &mut [i32], n: usize, depth: usize) -> Way
+fn retreat(t: &mut [i32], path: &mut [i32], n: usize, depth: usize) -> Option<(usize, u64)>
     requires { SomeOn n t.old path.old depth }
     ensures { (P : Problem) (s : List Level) → On P n s t.old path.old depth → Gone P n (Walk.retreat P s) t.new path.new result }
 {
-    let mut l = depth;
-    while l != 0 {
-        l = l - 1;
-        let again = try_again(t, path, n, l);
-        if let Again::Tried(a) = again {
-            return Way::To(l + 1, a);
+    for l in (0..depth).rev() {
+        if let Some(a) = try_again(t, path, n, l) {
+            return Some((l + 1, a));
         }
     }
-    Way::Out
+    None
 }
 
 // A visit at level l that takes the item whose header is i: to its first option, or back where it has none.
-fn enter(t: &mut [i32], path: &mut [i32], n: usize, i: usize, l: usize) -> Way
+fn enter(t: &mut [i32], path: &mut [i32], n: usize, i: usize, l: usize) -> Option<(usize, u64)>
     requires { SomeTaking n t.old path.old l i }
     ensures { (P : Problem) (s : List Level) (j : ℕ) → Taking P n s j t.old path.old l i → Gone P n (Walk.enter P s j) t.new path.new result }
 {
@@ -55,7 +49,7 @@ fn enter(t: &mut [i32], path: &mut [i32], n: usize, i: usize, l: usize) -> Way
     }
     words::put_link(path, l, x);
     let a = try_item(t, n, i, x);
-    Way::To(l + 1, a)
+    Some((l + 1, a))
 }
 
 // One visit more at level l.
@@ -63,8 +57,7 @@ fn bump(profile: &mut [u64], l: usize)
     requires { l < length profile.old }
     ensures { profile.new ≡ set profile.old l (capped (get_or profile.old l 0) 1) }
 {
-    let v = profile[l];
-    profile[l] = words::capped(v, 1);
+    profile[l] = words::capped(profile[l], 1);
 }
 
 // The state at level l.
@@ -73,9 +66,9 @@ fn state_at(phase: Phase, l: usize, updates: u64) -> State
     ensures { result ≡ record { phase = phase; depth = l; updates = updates } }
 {
     State {
-        phase: phase,
+        phase,
         depth: l as u32,
-        updates: updates,
+        updates,
     }
 }
 
@@ -96,18 +89,17 @@ fn run(
     let mut l = st.depth as usize;
     let mut u = st.updates;
     let mut visits = 0u64;
+    // No `for` over the visits: the last choice, which tells whether to pause, comes after the allowance is spent.
     loop {
-        let i = choose(t, n);
-        if i == 0 {
+        let Some(i) = choose(t, n) else {
             return NextAnswer::Solution(state_at(Phase::Solution, l, u), visits);
-        }
+        };
         if visits == allowance {
             return NextAnswer::Paused(state_at(Phase::Ready, l, u), visits);
         }
-        visits = visits + 1;
+        visits += 1;
         bump(profile, l);
-        let way = enter(t, path, n, i, l);
-        let Way::To(k, a) = way else {
+        let Some((k, a)) = enter(t, path, n, i, l) else {
             return NextAnswer::Exhausted(state_at(Phase::Done, 0, u), visits);
         };
         l = k;
@@ -129,24 +121,15 @@ pub fn go(
     requires some_begun { SomeBegun n t.old path.old st }
     ensures { (P : Problem) (s : List Level) → Begun P n s t.old path.old st → Ran P n (resume P (pick P) allowance st.phase s) (started st) profile.old t.new path.new profile.new result }
 {
-    let phase = st.phase;
-    match phase {
+    match st.phase {
         Phase::Ready => run(t, path, profile, n, st, allowance),
         Phase::Done => run(t, path, profile, n, state_at(Phase::Ready, 0, 0), allowance),
         Phase::Solution => {
-            let u = st.updates;
-            let way = retreat(t, path, n, st.depth as usize);
-            let Way::To(l, a) = way else {
-                return NextAnswer::Exhausted(state_at(Phase::Done, 0, u), 0);
+            let Some((l, a)) = retreat(t, path, n, st.depth as usize) else {
+                return NextAnswer::Exhausted(state_at(Phase::Done, 0, st.updates), 0);
             };
-            run(
-                t,
-                path,
-                profile,
-                n,
-                state_at(Phase::Ready, l, words::capped(u, a)),
-                allowance,
-            )
+            let at = state_at(Phase::Ready, l, words::capped(st.updates, a));
+            run(t, path, profile, n, at, allowance)
         }
     }
 }
@@ -168,12 +151,8 @@ pub fn walk_to(
 {
     let mut state = state_at(Phase::Ready, 0, 0);
     let mut left = allowance;
-    let mut ahead = number;
-    loop {
+    for _i in 0..number {
         let answer = go(t, path, profile, n, state, left);
-        if ahead == 0 {
-            return answer;
-        }
         let NextAnswer::Solution(at, visits) = answer else {
             return answer;
         };
@@ -184,8 +163,8 @@ pub fn walk_to(
             updates: at.updates,
         };
         left -= visits;
-        ahead -= 1;
     }
+    go(t, path, profile, n, state, left)
 }
 
 // Writes the option numbers of the path's first `depth` nodes over the front of `found`.
@@ -194,9 +173,7 @@ pub fn write_found(t: &[i32], n: usize, path: &[i32], found: &mut [i32], depth: 
     requires depth_in_bounds { depth ≤ length found.old }
     ensures { (P : Problem) (s : List Level) → On P n s t.now path.now depth → found.new ≡ over (map pos (numbers s)) found.old }
 {
-    let mut l = depth;
-    while l != 0 {
-        l = l - 1;
+    for l in (0..depth).rev() {
         let m = links::c::option_of(t, n, words::link_at(path, l));
         words::put_link(found, l, m);
     }

@@ -1,38 +1,37 @@
 // Whether lent words are a point of the search. The path's choices are made on the spare, and taken back.
-ghost use Rattle.std.specs.Prelude.{◌≡◌, ◌&&◌, List, [], ℕ, ◌≤◌, pos, length, take, drop};
+ghost use Rattle.std.specs.Prelude.{◌≡◌, List, [], ℕ, ◌≤◌, pos, length, take, drop};
 ghost use Rattle.rules.specs.Lists.{each, got};
-ghost use Rattle.rules.specs.Words.{same, same_words};
+ghost use Rattle.rules.specs.Words.{same};
 ghost use Rattle.rules.specs.Problem.{Problem};
 ghost use Rattle.rules.specs.Order.{pick, choices, open_options};
 ghost use Rattle.rules.specs.Walk.{Level, chosen};
-ghost use Rattle.rules.specs.Calls.{level_of, depth_fits, point};
+ghost use Rattle.rules.specs.Calls.{level_of, depth_fits, phase_fits, point};
 ghost use Rattle.search.specs.Points.{At, Picked, SomePicked};
-ghost use Rattle.search.specs.Replays.{phase_by, Trailed, SomeTrailed, Following, SomeFollowing, Followed};
+ghost use Rattle.search.specs.Replays.{Trailed, SomeTrailed, Following, SomeFollowing, Followed};
 ghost use Rattle.search.specs.Replays.{SomeFresh, follows, PathPoint, Testing, SomeTesting};
 
 use crate::choose::choose;
 use crate::x::{restore_item, try_item};
 use rules::{Phase, State};
 
-// What a path leads to on the spare: the levels made, and whether path and state are a point there.
+// What a path leads to on the spare: the levels made, and whether path and state are a point there. A struct and no
+// Result, since the levels are wanted in both cases.
 #[derive(Clone, Copy)]
 pub struct Reach {
     pub fits: bool,
     pub level: usize,
 }
 
-// Whether node q is in the list of the item whose header is i. `left` is there for the proof alone.
+// Whether node q is in the list of the item whose header is i.
 fn is_listed(t: &[i32], n: usize, i: usize, q: usize) -> bool
     requires { SomePicked n t.now i }
     ensures { (P : Problem) (s : List Level) (j : ℕ) → Picked P n s j t.now i → result ≡ got (level_of q (choices j (open_options P (chosen s)))) }
 {
-    let mut left = links::c::len(t, n, i);
     let mut p = links::c::dlink(t, n, i);
     while p != i {
         if p == q {
             return true;
         }
-        left = left - 1;
         p = links::c::dlink(t, n, p);
     }
     false
@@ -46,10 +45,9 @@ fn follow(spare: &mut [i32], path: &[i32], n: usize, l: usize) -> bool
     if !words::is_natural(path, l) {
         return false;
     }
-    let i = choose(spare, n);
-    if i == 0 {
+    let Some(i) = choose(spare, n) else {
         return false;
-    }
+    };
     let q = words::link_at(path, l);
     if !is_listed(spare, n, i, q) {
         return false;
@@ -65,14 +63,12 @@ fn replay(spare: &mut [i32], path: &[i32], n: usize, depth: usize) -> usize
     ensures { (P : Problem) → At P n [] spare.old →
         Trailed P n (follows P (take depth path.now) []) spare.new path.now result }
 {
-    let mut l = 0;
-    while l < depth {
+    for l in 0..depth {
         if !follow(spare, path, n, l) {
             return l;
         }
-        l = l + 1;
     }
-    l
+    depth
 }
 
 // Takes back the choices of the path's first `depth` nodes, the deepest first.
@@ -80,59 +76,35 @@ pub fn undo(spare: &mut [i32], path: &[i32], n: usize, depth: usize)
     requires { SomeTrailed n spare.old path.now depth }
     ensures { (P : Problem) (s : List Level) → Trailed P n s spare.old path.now depth → At P n [] spare.new }
 {
-    let mut l = depth;
-    while l != 0 {
-        l = l - 1;
+    for l in (0..depth).rev() {
         restore_item(spare, n, words::link_at(path, l));
     }
 }
 
-// Whether two lists of one length are the same, word for word.
-fn same_words(s: &[i32], t: &[i32]) -> bool
-    requires { length s.now ≡ length t.now }
-    ensures { result ≡ same_words s.now t.now }
-{
-    let mut k = 0;
-    while k < s.len() {
-        if !words::same_at(s, t, k) {
-            return false;
-        }
-        k = k + 1;
-    }
-    true
-}
-
 // Whether the path's words from d on are 0.
 fn zeros_from(path: &[i32], d: usize) -> bool
+    requires { d ≤ length path.now }
     ensures { result ≡ each (λ w. same w (pos 0)) (drop d path.now) }
 {
-    let mut k = d;
-    while k < path.len() {
-        if !words::is_zero(path, k) {
-            return false;
-        }
-        k = k + 1;
-    }
-    true
+    path[d..].iter().all(|w| *w == 0)
 }
 
 fn depth_fits(phase: Phase, np: usize, d: usize) -> bool
     ensures { result ≡ depth_fits phase np d }
 {
     match phase {
-        Phase::Ready => d <= np,
-        Phase::Solution => d <= np,
+        Phase::Ready | Phase::Solution => d <= np,
         Phase::Done => d == 0,
     }
 }
 
-// Whether the phase fits a point: i is the header of the item taken there, 0 for none.
-fn phase_fits(phase: Phase, i: usize) -> bool
-    ensures { result ≡ phase_by phase i }
+// Whether the phase fits a point: i is the header of the item taken there.
+fn phase_fits(phase: Phase, i: Option<usize>) -> bool
+    ensures { result ≡ phase_fits phase i }
 {
     match phase {
-        Phase::Ready => i != 0,
-        Phase::Solution => i == 0,
+        Phase::Ready => i.is_some(),
+        Phase::Solution => i.is_none(),
         Phase::Done => true,
     }
 }
@@ -146,29 +118,16 @@ pub fn path_point(spare: &mut [i32], path: &[i32], n: usize, st: State) -> Reach
 {
     let phase = st.phase;
     let d = st.depth as usize;
-    if !depth_fits(phase, path.len(), d) {
+    if !depth_fits(phase, path.len(), d) || !zeros_from(path, d) {
         return Reach {
             fits: false,
             level: 0,
         };
     }
-    if !zeros_from(path, d) {
-        return Reach {
-            fits: false,
-            level: 0,
-        };
-    }
-    let l = replay(spare, path, n, d);
-    if l != d {
-        return Reach {
-            fits: false,
-            level: l,
-        };
-    }
-    let i = choose(spare, n);
+    let level = replay(spare, path, n, d);
     Reach {
-        fits: phase_fits(phase, i),
-        level: l,
+        fits: level == d && phase_fits(phase, choose(spare, n)),
+        level,
     }
 }
 
@@ -178,16 +137,8 @@ pub fn test_point(t: &[i32], spare: &mut [i32], path: &[i32], n: usize, st: Stat
     ensures value { (P : Problem) → Testing P n t.now spare.old path.now → result ≡ got (point P (pick P) st t.now path.now) }
     ensures spare_unchanged { spare.new ≡ spare.old }
 {
-    let at = path_point(spare, path, n, st);
-    let fits = at.fits;
-    let level = at.level;
-    let same = same_words(t, spare);
+    let Reach { fits, level } = path_point(spare, path, n, st);
+    let same = t == spare;
     undo(spare, path, n, level);
-    both(fits, same)
-}
-
-fn both(a: bool, b: bool) -> bool
-    ensures { result ≡ (a && b) }
-{
-    if a { b } else { false }
+    fits && same
 }

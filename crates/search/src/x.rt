@@ -4,13 +4,6 @@ ghost use Rattle.rules.specs.Problem.{Problem};
 ghost use Rattle.rules.specs.Walk.{Level};
 ghost use Rattle.search.specs.Points.{At, On, Trying, SomeTrying, Tried, SomeLevel, Retried, Last, SomeLast};
 
-// Whether the level has another choice, which is tried then, with its updates.
-#[derive(Clone, Copy)]
-pub enum Again {
-    Tried(u64),
-    Restored,
-}
-
 // Covers the item whose header is i, and commits the option of its node x. The result is the number of updates.
 pub fn try_item(t: &mut [i32], n: usize, i: usize, x: usize) -> u64
     requires { SomeTrying n t.old i x }
@@ -21,8 +14,9 @@ pub fn try_item(t: &mut [i32], n: usize, i: usize, x: usize) -> u64
     words::capped(a, b)
 }
 
-// Goes on to the next choice at level l, the deepest, or takes the level back where it has none left.
-pub fn try_again(t: &mut [i32], path: &mut [i32], n: usize, l: usize) -> Again
+// Goes on to the next choice at level l, the deepest, or takes the level back where it has none left. The result is the
+// number of updates of the choice tried.
+pub fn try_again(t: &mut [i32], path: &mut [i32], n: usize, l: usize) -> Option<u64>
     requires { SomeLevel n t.old path.old l }
     ensures { (P : Problem) (v : Level) (above : List Level) → On P n (v ∷ above) t.old path.old (suc l) → Retried P n l v.left above t.new path.new result }
 {
@@ -33,10 +27,10 @@ pub fn try_again(t: &mut [i32], path: &mut [i32], n: usize, l: usize) -> Again
     if y == i {
         links::x::uncover(t, n, i);
         words::put_link(path, l, 0);
-        return Again::Restored;
+        return None;
     }
     words::put_link(path, l, y);
-    Again::Tried(links::c::commit_all(t, n, y))
+    Some(links::c::commit_all(t, n, y))
 }
 
 // Takes back the choice of node x, the last one made.

@@ -1,37 +1,14 @@
 -- The lines of a text: the first that is faulty, and those that say something. Assumes nothing.
-use mathlib.Core.Bool.{Bool, true, false, not, ◌||◌, cond}
-use mathlib.Core.List.{List, [], ◌∷◌, ◌++◌, append-nil, map}
-use mathlib.Core.Logic.{◌⊎◌, inl, inr}
-use mathlib.Core.Option.{Option, none, some}
-use mathlib.Core.Path.{◌≡◌, refl, sym, ap, ◌∙◌}
-use Prim.Native.Nat.{ℕ, ◌+◌, ◌*◌, ◌≤◌, ◌<◌}
-use native.Mathlib.Omega.{arith}
-use lib.Dec.{eqb}
-use lib.IntN.{ℤ}
-use lib.ListN.{length, drop, drop_of_length-le, length-append}
-use lib.Seq.{sets}
+use Rattle.std.proofs.Common.{◌≡◌, ℕ, ◌+◌, ◌*◌, ◌≤◌, Bool, true, false, not, ◌||◌, cond, List, [], ◌∷◌, ◌++◌, map, length, ℤ, Option, None, Some, refl, sym, ap, ◌∙◌, arith, length-append}
+use mathlib.Core.List.{append-nil}
 use Rattle.rules.specs.Lists.{also, keep, each, has, flat, got}
 use Rattle.rules.specs.Problem.{Entry}
-use Rattle.rules.specs.Text.{allowed, split, tokens, passed, lines, stated, same_name, name_of, Items, items_bad, entered, option_bad, line_bad, known_after, first_bad, entry_words, option_words}
+use Rattle.rules.specs.Text.{allowed, tokens, passed, stated, same_name, name_of, Items, items_bad, entered, option_bad, line_bad, known_after, first_bad, entry_words, option_words}
 use Rattle.laws.specs.Lists.{flat_append}
-use Rattle.text.specs.Scan.{part, Stopped}
-use Rattle.text.specs.Read.{options_words, line_words, FoundAt, CheckedAre}
-use Rattle.text.proofs.Tests.{never, or_left, or_right, lt_or_le}
-use Rattle.text.proofs.Pieces.{part_long, pieces_more, pieces_last}
-use Rattle.text.proofs.Writing.{Putting, put_room, put_turn}
-
-abbrev lf : ℕ → Bool
-lf b = eqb b 10
-
--- ---- one line more
-
-no_line_bad : (front : Bool) (k : ℕ) (known : Option Items) → first_bad front k known (lines []) ≡ 0
-unfolding first_bad each tokens split keep
-no_line_bad front k known = refl
-
-no_line_stated : stated (lines []) ≡ []
-unfolding tokens split keep
-no_line_stated = refl
+use Rattle.text.specs.declared.pieces.Lines.{Lines}
+use Rattle.text.specs.Pieces.{lines_left, bytes_left}
+use Rattle.text.specs.Read.{bad_left, stated_left, options_words, ItemsFound, OptionsCounted}
+use Rattle.text.proofs.Tests.{never, or_left, or_right}
 
 first_stated : (u : List ℕ) (ls : List (List ℕ)) → stated (u ∷ ls) ≡ stated (u ∷ []) ++ stated ls
 unfolding keep
@@ -41,64 +18,13 @@ first_stated u ls = by (not (passed (tokens u)))
     by true = refl
     by false = refl
 
-module _ {s : List ℕ} {a e : ℕ} (S : Stopped lf s a e) where
-  abbrev u : List ℕ
-  u = part s a e
+no_line_bad : (front : Bool) (k : ℕ) (known : Option Items) → first_bad front k known [] ≡ 0
+unfolding first_bad
+no_line_bad front k known = refl
 
-  past_end : length s ≤ e → drop (e + 1) s ≡ []
-  past_end h = let k : length s ≤ e + 1 = omega arith in drop_of_length-le s k
-
-  module _ (front : Bool) (k : ℕ) (known : Option Items) where
-    bad_by : (e < length s) ⊎ (length s ≤ e)
-        → first_bad front k known (lines (drop a s)) ≡ cond (line_bad known u) k (first_bad front (k + 1) (known_after front known (tokens u)) (lines (drop (e + 1) s)))
-    unfolding first_bad
-    bad_by (inl h) = ap (first_bad front k known) (pieces_more S h)
-    bad_by (inr h) =
-        ap (first_bad front k known) (pieces_last S h)
-        ∙ ap (cond (line_bad known u) k)
-        (sym (ap (λ (l : List ℕ). first_bad front (k + 1) (known_after front known (tokens u)) (lines l)) (past_end h) ∙ no_line_bad front (k + 1) (known_after front known (tokens u))))
-
-    pub bad_step : first_bad front k known (lines (drop a s)) ≡ cond (line_bad known u) k (first_bad front (k + 1) (known_after front known (tokens u)) (lines (drop (e + 1) s)))
-    bad_step = bad_by (lt_or_le e (length s))
-
-  stated_by : (e < length s) ⊎ (length s ≤ e) → stated (lines (drop a s)) ≡ stated (u ∷ []) ++ stated (lines (drop (e + 1) s))
-  stated_by (inl h) = ap stated (pieces_more S h) ∙ first_stated u (lines (drop (e + 1) s))
-  stated_by (inr h) =
-      ap stated (pieces_last S h)
-      ∙ sym (ap (λ (l : List (List (List ℕ))). stated (u ∷ []) ++ l) (ap (λ (l : List ℕ). stated (lines l)) (past_end h) ∙ no_line_stated) ∙ append-nil (stated (u ∷ [])))
-
-  pub stated_step : stated (lines (drop a s)) ≡ stated (u ∷ []) ++ stated (lines (drop (e + 1) s))
-  stated_step = stated_by (lt_or_le e (length s))
-
-  pub words_step : (I : Items) → options_words I (lines (drop a s)) ≡ options_words I (u ∷ []) ++ options_words I (lines (drop (e + 1) s))
-  unfolding options_words
-  words_step I = ap (flat (option_words I)) stated_step ∙ flat_append (option_words I) (stated (u ∷ [])) (stated (lines (drop (e + 1) s)))
-
-module _ (s : List ℕ) (a : ℕ) (h : length s ≤ a) where
-  pub bad_end : (front : Bool) (k : ℕ) (known : Option Items) → first_bad front k known (lines (drop a s)) ≡ 0
-  bad_end front k known = ap (λ (l : List ℕ). first_bad front k known (lines l)) (drop_of_length-le s h) ∙ no_line_bad front k known
-
-  pub stated_end : stated (lines (drop a s)) ≡ []
-  stated_end = ap (λ (l : List ℕ). stated (lines l)) (drop_of_length-le s h) ∙ no_line_stated
-
-  pub words_end : (I : Items) → options_words I (lines (drop a s)) ≡ []
-  unfolding options_words flat
-  words_end I = ap (flat (option_words I)) stated_end
-
--- ---- one line
-
-module _ (known : Option Items) (l : List ℕ) where
-  pub bad_byte : each allowed l ≡ false → true ≡ line_bad known l
-  bad_byte e = rw e refl
-
-  pub fine_passed : each allowed l ≡ true → passed (tokens l) ≡ true → false ≡ line_bad known l
-  fine_passed e p = rw (e, p) refl
-
-pub bad_items : (l : List ℕ) {r : Bool} → each allowed l ≡ true → passed (tokens l) ≡ false → r ≡ items_bad false (tokens l) → r ≡ line_bad none l
-bad_items l e p u = u ∙ rw (e, p) refl
-
-pub bad_option : (I : Items) (l : List ℕ) {r : Bool} → each allowed l ≡ true → passed (tokens l) ≡ false → r ≡ option_bad I (tokens l) → r ≡ line_bad (some I) l
-bad_option I l e p u = u ∙ rw (e, p) refl
+no_line_stated : stated [] ≡ []
+unfolding keep
+no_line_stated = refl
 
 stated_passed : (l : List ℕ) → passed (tokens l) ≡ true → stated (l ∷ []) ≡ []
 unfolding keep
@@ -108,171 +34,196 @@ stated_one : (l : List ℕ) → passed (tokens l) ≡ false → stated (l ∷ []
 unfolding keep
 stated_one l p = rw p refl
 
-pub options_none : (l : List ℕ) → passed (tokens l) ≡ true → 0 ≡ length (stated (l ∷ []))
-options_none l p = sym (ap length (stated_passed l p))
+-- ---- one line more of those that are left
 
-pub options_one : (l : List ℕ) → passed (tokens l) ≡ false → 1 ≡ length (stated (l ∷ []))
-options_one l p = sym (ap length (stated_one l p))
+module _ (s t : Lines) {l : List ℕ} (e : lines_left s.rest ≡ l ∷ lines_left t.rest) where
+  pub bad_more : t.number ≡ s.number + 1 → (front : Bool) (known : Option Items)
+      → bad_left front known s ≡ cond (line_bad known l) s.number
+      (bad_left front (known_after front known (tokens l)) t)
+  unfolding first_bad
+  bad_more n front known =
+      ap (first_bad front s.number known) e
+      ∙ ap (λ (k : ℕ). cond (line_bad known l) s.number (first_bad front k (known_after front known (tokens l))
+      (lines_left t.rest))) (sym n)
 
-pub counts_none : (l : List ℕ) → passed (tokens l) ≡ true → 0 ≡ line_words l
-counts_none l p = rw p refl
+  pub stated_more : stated_left s ≡ stated (l ∷ []) ++ stated_left t
+  stated_more = ap stated e ∙ first_stated l (lines_left t.rest)
 
-pub counts_some : (l : List ℕ) {n : ℕ} → passed (tokens l) ≡ false → n ≡ length (tokens l) → 1 + 2 * n ≡ line_words l
-counts_some l p e = ap (λ (k : ℕ). 1 + 2 * k) e ∙ rw p refl
+  pub words_more : (I : Items) → options_words I (lines_left s.rest) ≡ options_words I (l ∷ []) ++ options_words I
+      (lines_left t.rest)
+  unfolding options_words
+  words_more I = ap (flat (option_words I)) stated_more ∙ flat_append (option_words I) (stated (l ∷ [])) (stated_left t)
 
-pub line_none : (I : Items) (l : List ℕ) → passed (tokens l) ≡ true → options_words I (l ∷ []) ≡ []
+module _ (s : Lines) (e : lines_left s.rest ≡ []) where
+  pub bad_end : (front : Bool) (known : Option Items) → bad_left front known s ≡ 0
+  bad_end front known = ap (first_bad front s.number known) e ∙ no_line_bad front s.number known
+
+  pub stated_end : stated_left s ≡ []
+  stated_end = ap stated e ∙ no_line_stated
+
+  pub words_end : (I : Items) → options_words I (lines_left s.rest) ≡ []
+  unfolding options_words flat
+  words_end I = ap (flat (option_words I)) stated_end
+
+-- ---- one line
+
+line_none : (I : Items) (l : List ℕ) → passed (tokens l) ≡ true → options_words I (l ∷ []) ≡ []
 unfolding options_words flat
 line_none I l p = ap (flat (option_words I)) (stated_passed l p)
 
-pub line_one : (I : Items) (l : List ℕ) → passed (tokens l) ≡ false → options_words I (l ∷ []) ≡ option_words I (tokens l)
+line_one : (I : Items) (l : List ℕ) → passed (tokens l) ≡ false → options_words I (l ∷ []) ≡ option_words I (tokens l)
 unfolding options_words flat
 line_one I l p = ap (flat (option_words I)) (stated_one l p) ∙ append-nil (option_words I (tokens l))
 
--- ---- a line that is not faulty has so many words
-
 two_words : (o : Option Entry) → got o ≡ true → length (entry_words o) ≡ 2
-two_words none e = never (sym e)
-two_words (some x) e = refl
+two_words None e = never (sym e)
+two_words (Some x) e = refl
 
 not_not : (b : Bool) → not b ≡ false → b ≡ true
 not_not true e = refl
 not_not false e = never e
 
-good_words : (I : Items) (ts : List (List ℕ)) → option_bad I ts ≡ false → length (flat (λ t. entry_words (entered I t)) ts) ≡ 2 * length ts
+good_words : (I : Items) (ts : List (List ℕ)) → option_bad I ts ≡ false
+    → length (flat (λ t. entry_words (entered I t)) ts) ≡ 2 * length ts
 unfolding option_bad flat
 good_words I [] e = refl
 good_words I (t ∷ ts) e =
     let named : Bool = has (same_name (name_of t)) (map name_of ts) in
-    let none_here : (not (got (entered I t)) || named) ≡ false = or_left (not (got (entered I t)) || named) (option_bad I ts) e in
+    let none_here : (not (got (entered I t)) || named) ≡ false =
+    or_left (not (got (entered I t)) || named) (option_bad I ts) e in
     let none_later : option_bad I ts ≡ false = or_right (not (got (entered I t)) || named) (option_bad I ts) e in
     length-append (entry_words (entered I t)) (flat (λ t. entry_words (entered I t)) ts)
-    ∙ omega (arith, two_words (entered I t) (not_not (got (entered I t)) (or_left (not (got (entered I t))) named none_here)), good_words I ts none_later)
+    ∙ omega (
+      arith,
+      two_words (entered I t) (not_not (got (entered I t))
+          (or_left (not (got (entered I t))) named none_here)),
+      good_words I ts none_later,
+    )
 
-line_as : (I : Items) (l : List ℕ) (b : Bool) → passed (tokens l) ≡ b → line_bad (some I) l ≡ false → line_words l ≡ length (options_words I (l ∷ []))
+option_long : (I : Items) (l : List ℕ) → passed (tokens l) ≡ false → line_bad (Some I) l ≡ false
+    → length (options_words I (l ∷ [])) ≡ 1 + 2 * length (tokens l)
 unfolding option_words
-line_as I l true p e = sym (counts_none l p) ∙ sym (ap length (line_none I l p))
-line_as I l false p e =
+option_long I l p e =
     let o : option_bad I (tokens l) ≡ false = rw p at (or_right (not (each allowed l)) _ e) in
-    rw (p, line_one I l p) (omega (arith, good_words I (tokens l) o))
+    ap length (line_one I l p) ∙ omega (arith, good_words I (tokens l) o)
 
-pub line_counts : (I : Items) (l : List ℕ) → line_bad (some I) l ≡ false → line_words l ≡ length (options_words I (l ∷ []))
-line_counts I l e = line_as I l (passed (tokens l)) refl e
+module _ (s t : Lines) {l : List ℕ} (e : lines_left s.rest ≡ l ∷ lines_left t.rest) (I : Items) where
+  pub words_passed : passed (tokens l) ≡ true → options_words I (lines_left s.rest) ≡ options_words I
+      (lines_left t.rest)
+  words_passed p = words_more s t e I ∙ ap (λ (ws : List ℤ). ws ++ options_words I (lines_left t.rest))
+      (line_none I l p)
+
+  pub words_option : passed (tokens l) ≡ false → options_words I (lines_left s.rest) ≡ option_words I
+      (tokens l) ++ options_words I (lines_left t.rest)
+  words_option p = words_more s t e I ∙ ap (λ (ws : List ℤ). ws ++ options_words I (lines_left t.rest)) (line_one I l p)
 
 -- ---- the items line
 
-pub record Seeking (front : Bool) (text : List ℕ) (number at : ℕ) : Type 0 where
-  pub first : 1 ≤ number
-  pub low : number ≤ 1 + at
-  pub same_bad : first_bad front 1 none (lines text) ≡ first_bad front number none (lines (drop at text))
-  pub same_stated : stated (lines text) ≡ stated (lines (drop at text))
+pub record Seeking (s t : Lines) : Type 0 where
+  pub same_bad : (front : Bool) → bad_left front None s ≡ bad_left front None t
+  pub same_stated : stated_left s ≡ stated_left t
 
-pub seek_start : (front : Bool) (text : List ℕ) → Seeking front text 1 0
-seek_start front text = record { first = omega arith; low = omega arith; same_bad = refl; same_stated = refl }
+module _ {all s : Lines} (S : Seeking all s) (t : Lines) {k : ℕ} {l : List ℕ} (first : k ≡ s.number)
+    (number : t.number ≡ s.number + 1) (e : lines_left s.rest ≡ l ∷ lines_left t.rest) where
+  bad_now : (front : Bool) → bad_left front None all ≡ cond (line_bad None l) s.number
+      (bad_left front (known_after front None (tokens l)) t)
+  bad_now front = S.same_bad front ∙ bad_more s t e number front None
 
-module _ {front : Bool} {text : List ℕ} {number at end : ℕ} (I : Seeking front text number at) (S : Stopped lf text at end) where
-  abbrev l : List ℕ
-  l = part text at end
+  pub seek_faulty : line_bad None l ≡ true → (1 ≤ k) × ((front : Bool) → bad_left front None all ≡ k)
+  seek_faulty f = (omega (arith, s.few.0), λ front. bad_now front ∙ rw f (sym first))
 
-  bad_now : first_bad front 1 none (lines text) ≡ cond (line_bad none l) number (first_bad front (number + 1) (known_after front none (tokens l)) (lines (drop (end + 1) text)))
-  bad_now = I.same_bad ∙ bad_step S front number none
-
-  pub seek_faulty : true ≡ line_bad none l → (1 ≤ number) × (first_bad front 1 none (lines text) ≡ number)
-  seek_faulty e = (I.first, bad_now ∙ rw (sym e) refl)
-
-  pub seek_turn : each allowed l ≡ true → passed (tokens l) ≡ true → Seeking front text (number + 1) (end + 1)
-  seek_turn e p = record {
-    first = omega arith;
-    low = let h = I.low in let k = S.low in omega arith;
-    same_bad = bad_now ∙ rw (sym (fine_passed none l e p), p) refl;
-    same_stated = I.same_stated ∙ stated_step S ∙ ap (λ (x : List (List (List ℕ))). x ++ stated (lines (drop (end + 1) text))) (stated_passed l p);
+  pub seek_turn : each allowed l ≡ true → passed (tokens l) ≡ true → Seeking all t
+  seek_turn c p = record {
+    same_bad = λ front. bad_now front ∙ rw (c, p) refl;
+    same_stated = S.same_stated ∙ stated_more s t e ∙ ap (λ (x : List (List (List ℕ))). x ++ stated_left t)
+        (stated_passed l p);
   }
 
-  pub seek_found : length text ≤ 65536 → at < length text → passed (tokens l) ≡ false → false ≡ line_bad none l → FoundAt front text at end (number + 1)
-  seek_found n h p f = record {
-    low = S.low;
-    high = S.high;
-    numbered = ((let k = I.first in omega arith), (let k = I.low in omega arith));
-    same_bad = bad_now ∙ rw (sym f, p) refl;
-    same_stated = I.same_stated ∙ stated_step S ∙ ap (λ (x : List (List (List ℕ))). x ++ stated (lines (drop (end + 1) text))) (stated_one l p);
+  pub seek_found : length l ≤ 65536 → each allowed l ≡ true → passed (tokens l) ≡ false
+      → items_bad false (tokens l) ≡ false → ItemsFound all t l
+  seek_found n c p f = record {
+    short = n;
+    same_bad = λ front. bad_now front ∙ rw (c, p, f) refl;
+    same_stated = S.same_stated ∙ stated_more s t e ∙ ap (λ (x : List (List (List ℕ))). x ++ stated_left t)
+        (stated_one l p);
   }
 
-pub seek_end : {front : Bool} {text : List ℕ} {number at : ℕ} → Seeking front text number at → length text ≤ at → (first_bad front 1 none (lines text) ≡ 0) × (stated (lines text) ≡ [])
-seek_end {front} {text} {number} {at} I h = (I.same_bad ∙ bad_end text at h front number none, I.same_stated ∙ stated_end text at h)
+pub bad_byte : (known : Option Items) (l : List ℕ) → each allowed l ≡ false → line_bad known l ≡ true
+bad_byte known l c = rw c refl
+
+pub bad_items : (l : List ℕ) → each allowed l ≡ true → passed (tokens l) ≡ false → items_bad false (tokens l) ≡ true
+    → line_bad None l ≡ true
+bad_items l c p f = rw (c, p, f) refl
+
+pub seek_end : {all s : Lines} → Seeking all s → lines_left s.rest ≡ [] → ((front : Bool) → bad_left front None all ≡ 0)
+    × (stated_left all ≡ [])
+seek_end {all} {s} S e = (λ front. S.same_bad front ∙ bad_end s e front None, S.same_stated ∙ stated_end s e)
 
 -- ---- the options
 
-pub record Checking (front : Bool) (K : Items) (rest : List ℕ) (from options words number at : ℕ) : Type 0 where
-  pub first : 1 ≤ number
-  pub low : number ≤ from + at
-  pub few : options ≤ at
-  pub small : words ≤ 3 * at
-  pub high : at ≤ length rest + 1
-  pub same_bad : first_bad front from (some K) (lines rest) ≡ first_bad front number (some K) (lines (drop at rest))
-  pub same_options : length (stated (lines rest)) ≡ options + length (stated (lines (drop at rest)))
-  pub same_words : length (options_words K (lines rest)) ≡ words + length (options_words K (lines (drop at rest)))
+pub record Checking (I : Items) (all s : Lines) (options words : ℕ) : Type 0 where
+  pub few : options + bytes_left s.rest ≤ 65537
+  pub small : words + 3 * bytes_left s.rest ≤ 196611
+  pub same_bad : (front : Bool) → bad_left front (Some I) all ≡ bad_left front (Some I) s
+  pub same_options : length (stated_left all) ≡ options + length (stated_left s)
+  pub same_words : length (options_words I (lines_left all.rest)) ≡ words + length (options_words I (lines_left s.rest))
 
-pub check_start : (front : Bool) (K : Items) (rest : List ℕ) (from : ℕ) → 1 ≤ from → Checking front K rest from 0 0 from 0
-check_start front K rest from h = record {
-  first = h;
-  low = omega arith;
-  few = omega arith;
-  small = omega arith;
-  high = omega arith;
-  same_bad = refl;
-  same_options = omega arith;
-  same_words = omega arith;
+module _ {I : Items} {all s : Lines} {options words : ℕ} (C : Checking I all s options words) (t : Lines) {k : ℕ}
+    {l : List ℕ} (first : k ≡ s.number) (number : t.number ≡ s.number + 1)
+    (e : lines_left s.rest ≡ l ∷ lines_left t.rest) where
+  bad_here : (front : Bool) → bad_left front (Some I) all ≡ cond (line_bad (Some I) l) s.number
+      (bad_left front (Some I) t)
+  bad_here front = C.same_bad front ∙ bad_more s t e number front (Some I)
+
+  pub check_faulty : line_bad (Some I) l ≡ true → (1 ≤ k) × ((front : Bool) → bad_left front (Some I) all ≡ k)
+  check_faulty f = (omega (arith, s.few.0), λ front. bad_here front ∙ rw f (sym first))
+
+  module _ (b : bytes_left s.rest ≡ length l + 1 + bytes_left t.rest) (f : line_bad (Some I) l ≡ false) where
+    check_by : {o w : ℕ} → length (stated (l ∷ [])) ≡ o → length (options_words I (l ∷ [])) ≡ w → o ≤ 1
+        → w ≤ 1 + 2 * length l → Checking I all t (options + o) (words + w)
+    check_by p q x y = record {
+      few = omega (arith, C.few);
+      small = omega (arith, C.small);
+      same_bad = λ front. bad_here front ∙ rw f refl;
+      same_options = omega (
+        arith,
+        C.same_options,
+        p,
+        ap length (stated_more s t e)
+            ∙ length-append (stated (l ∷ [])) (stated_left t),
+      );
+      same_words = omega (
+        arith,
+        C.same_words,
+        q,
+        ap length (words_more s t e I)
+            ∙ length-append (options_words I (l ∷ [])) (options_words I (lines_left t.rest)),
+      );
+    }
+
+    pub check_passed : passed (tokens l) ≡ true → Checking I all t options words
+    check_passed p =
+        let c = check_by {o = 0} {w = 0} (ap length (stated_passed l p)) (ap length (line_none I l p)) (omega arith)
+        (omega arith) in
+        record {
+          few = omega (arith, c.few);
+          small = omega (arith, c.small);
+          same_bad = c.same_bad;
+          same_options = omega (arith, c.same_options);
+          same_words = omega (arith, c.same_words);
+        }
+
+    pub check_option : {n : ℕ} → passed (tokens l) ≡ false → n ≡ length (tokens l) → n ≤ length l
+        → Checking I all t (options + 1) (words + (1 + 2 * n))
+    check_option p u v = check_by (ap length (stated_one l p)) (option_long I l p f ∙ omega arith) (omega arith)
+        (omega arith)
+
+pub check_end : {I : Items} {all s : Lines} {options words : ℕ} → Checking I all s options words
+    → lines_left s.rest ≡ [] → OptionsCounted I all options words
+check_end {I} {all} {s} {options} {words} C e = record {
+  faultless = λ front. C.same_bad front ∙ bad_end s e front (Some I);
+  options_are = C.same_options ∙ omega (arith, ap length (stated_end s e));
+  words_are = C.same_words ∙ omega (arith, ap length (words_end s e I));
+  few = omega (arith, C.few);
+  small = omega (arith, C.small);
 }
-
-module _ {front : Bool} {K : Items} {rest : List ℕ} {from options words number at end : ℕ} (C : Checking front K rest from options words number at) (S : Stopped lf rest at end) where
-  abbrev line : List ℕ
-  line = part rest at end
-
-  bad_here : first_bad front from (some K) (lines rest) ≡ cond (line_bad (some K) line) number (first_bad front (number + 1) (some K) (lines (drop (end + 1) rest)))
-  bad_here = C.same_bad ∙ bad_step S front number (some K)
-
-  pub check_faulty : {r : Bool} → r ≡ line_bad (some K) line → r ≡ true → (1 ≤ number) × (first_bad front from (some K) (lines rest) ≡ number)
-  check_faulty e t = (C.first, bad_here ∙ rw (sym e ∙ t) refl)
-
-  pub check_turn : {r : Bool} {o w : ℕ} → r ≡ line_bad (some K) line → r ≡ false → o ≡ length (stated (line ∷ [])) → o ≤ 1 → w ≡ line_words line → w ≤ 1 + 2 * length line
-      → Checking front K rest from (options + o) (words + w) (number + 1) (end + 1)
-  check_turn {r} {o} {w} e t p q x y =
-      let a = S.low in
-      let b = S.high in
-      let n = part_long rest at end a b in
-      let c = C.low in
-      let d = C.few in
-      let f = C.small in
-      record {
-        first = omega arith;
-        low = omega arith;
-        few = omega arith;
-        small = omega arith;
-        high = omega arith;
-        same_bad = bad_here ∙ rw (sym e ∙ t) refl;
-        same_options =
-            C.same_options ∙ omega (arith, ap length (stated_step S) ∙ length-append (stated (line ∷ [])) (stated (lines (drop (end + 1) rest))));
-        same_words =
-            C.same_words
-            ∙ omega (arith, x ∙ line_counts K line (sym e ∙ t), ap length (words_step S K) ∙ length-append (options_words K (line ∷ [])) (options_words K (lines (drop (end + 1) rest))));
-      }
-
-pub check_end : {front : Bool} {K : Items} {rest : List ℕ} {from options words number at : ℕ} → Checking front K rest from options words number at → length rest ≤ 65536 → length rest ≤ at → CheckedAre front K from rest options words
-check_end {front} {K} {rest} {from} {options} {words} {number} {at} C n h = record {
-  faultless = C.same_bad ∙ bad_end rest at h front number (some K);
-  options_are = C.same_options ∙ omega (arith, ap length (stated_end rest at h));
-  words_are = C.same_words ∙ omega (arith, ap length (words_end rest at h K));
-  few = omega (arith, C.few, C.high);
-  small = omega (arith, C.small, C.high);
-}
-
--- ---- the loop that writes them
-
-pub record PuttingOptions (I : Items) (rest : List ℕ) (w₀ w : List ℤ) (place next at : ℕ) : Type 0 where
-  pub put : Putting (options_words I (lines rest)) (options_words I (lines (drop at rest))) w₀ w place next
-
-module _ {I : Items} {rest : List ℕ} {w₀ w : List ℤ} {place next at end : ℕ} (O : PuttingOptions I rest w₀ w place next at) (S : Stopped lf rest at end) where
-  pub options_room : place + length (options_words I (lines rest)) ≤ length w₀ → next + length (options_words I (part rest at end ∷ [])) ≤ length w
-  options_room h = put_room O.put (options_words I (part rest at end ∷ [])) (options_words I (lines (drop (end + 1) rest))) (words_step S I) h
-
-  pub options_turn : {w' : List ℤ} {next' : ℕ} → next' ≡ next + length (options_words I (part rest at end ∷ [])) → w' ≡ sets w next (options_words I (part rest at end ∷ [])) → PuttingOptions I rest w₀ w' place next' (end + 1)
-  options_turn n u = record { put = put_turn O.put (options_words I (part rest at end ∷ [])) (options_words I (lines (drop (end + 1) rest))) (words_step S I) n u }

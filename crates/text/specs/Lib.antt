@@ -1,4 +1,4 @@
-pub mod Scan
+pub mod Pieces
 pub mod Names
 pub mod Entries
 pub mod Read

@@ -1,51 +1,20 @@
--- Names among the tokens of a line, and the items line.
-use Rattle.std.specs.Prelude.{Bool, true, false, not, ◌||◌, cond, List, [], ◌∷◌, ◌≡◌, ℕ, ◌+◌, ◌≤◌, length, take, drop}
-use Rattle.rules.specs.Lists.{keep, each, has}
-use Rattle.rules.specs.Text.{name_byte, same_name, is_bar, sharp, no_names, tokens, before_bar, after_bar}
-use Rattle.text.specs.declared.items.Class.{Class}
-use Rattle.text.specs.declared.items.Class.TheVariants.{Any, Sharp, Plain}
-use Rattle.text.specs.declared.items.Place.{Place}
-use Rattle.text.specs.declared.items.Place.TheVariants.{At, Past}
+-- The names that are known of an items line, and its faults.
+use Rattle.std.specs.Prelude.{Bool, not, ◌||◌, cond, List, ℕ, eqb, take, position, Option}
+use lib.Pointwise.{pointwise}
+use Rattle.rules.specs.Lists.{each, has}
+use Rattle.rules.specs.Text.{Items, moved_names, name_byte, same_name, is_bar, no_names, tokens}
+use Rattle.text.specs.declared.names.Names.{Names}
 
-abbrev pub admits : Class → List ℕ → Bool
-admits Any t = true
-admits Sharp t = sharp t
-admits Plain t = not (sharp t)
+abbrev pub primary_names : Names → List (List ℕ)
+primary_names n = take n.primaries (tokens n.items.now)
 
--- the classes of the primary names, by the flag, in the order of their numbers
-abbrev pub first_class : Bool → Class
-first_class true = Sharp
-first_class false = Plain
+abbrev pub known : Names → Items
+known n = record { primary = moved_names n.front (primary_names n); secondary = tokens n.secondary.now }
 
-abbrev pub second_class : Bool → Class
-second_class true = Plain
-second_class false = Sharp
-
--- what stands between two white bytes, as tokens
-abbrev pub token_if : List ℕ → List (List ℕ)
-token_if [] = []
-token_if (b ∷ s) = (b ∷ s) ∷ []
-
--- where a name stands among others, counted from k, or the number after theirs
-unfoldable pub placed : ℕ → List ℕ → List (List ℕ) → Place
-placed k t [] = Past k
-placed k t (n ∷ ns) = cond (same_name t n) (At k) (placed (k + 1) t ns)
-
-unfoldable pub looked : Class → List ℕ → List ℕ → ℕ → Place
-looked class piece t k = placed k t (keep (admits class) (token_if piece))
-
-abbrev pub LowPlace : ℕ → Place → Type 0
-LowPlace most (At k) = k ≤ most
-LowPlace most (Past k) = k ≤ most
+-- where a name stands among others
+abbrev pub place_in : List ℕ → List (List ℕ) → Option ℕ
+place_in name ns = position (pointwise eqb name) ns
 
 -- the fault of one token of the items line, before the others
-unfoldable pub piece_bad : Bool → List ℕ → List (List ℕ) → Bool
-piece_bad second [] ts = false
-piece_bad second (b ∷ s) ts =
-    cond (is_bar (b ∷ s)) (second || no_names ts) (not (each name_byte (b ∷ s)) || has (same_name (b ∷ s)) ts)
-
--- the names before and after place r are the primary and the secondary ones
-pub record Barred (items : List ℕ) (r : ℕ) : Type 0 where
-  pub within : r ≤ length items
-  pub before : tokens (take r items) ≡ before_bar (tokens items)
-  pub after : tokens (drop (r + 1) items) ≡ after_bar (tokens items)
+abbrev pub item_bad : Bool → List ℕ → List (List ℕ) → Bool
+item_bad second t ts = cond (is_bar t) (second || no_names ts) (not (each name_byte t) || has (same_name t) ts)

@@ -1,93 +1,66 @@
 // The reader of the text form: from bytes to problem words. It keeps no list of names: places in the text are enough.
 #![tactic(auto)]
 
+mod bytes;
 mod items;
 mod lines;
+mod names;
 mod options;
-mod scan;
+mod pieces;
 
-ghost use Rattle.std.specs.Prelude.{◌≡◌, ◌≤◌};
+ghost use Rattle.std.specs.Prelude.{◌≡◌};
 ghost use Rattle.rules.specs.Text.{read_call};
-ghost use Rattle.text.specs.Read.{Short, Parts, Room, known, under_items, under_options, heads};
+ghost use Rattle.text.specs.Names.{known};
+ghost use Rattle.text.specs.Read.{Room, under, heads};
 
-use items::{bar_at, count};
-use lines::{Checked, Found, check_options, find_items, write_options};
-use rules::Reading;
-use scan::past;
+use lines::{check_options, find_items, write_options};
+use names::Names;
+use pieces::{Lines, count};
+use rules::Unread;
 use words::put_link;
 
-// Writes the words of a problem over the front of the list: so many options stand in the lines `rest`.
-fn write_problem(
-    primary: &[u8],
-    secondary: &[u8],
-    front: bool,
-    rest: &[u8],
-    options: usize,
-    words: &mut [i32],
-)
-    requires parts { Parts primary.now secondary.now × Short rest.now }
-    requires room { Room (known front primary.now secondary.now) rest.now options words.old }
-    ensures { words.new ≡ heads (known front primary.now secondary.now) rest.now words.old }
+// Writes the words of a problem over the front of the list: so many options stand in the lines.
+fn write_problem(names: &Names<'_>, lines: Lines<'_>, options: usize, words: &mut [i32])
+    requires { Room (known names.now) lines options words.old }
+    ensures { words.new ≡ heads (known names.now) lines.entry words.old }
 {
-    put_link(words, 0, count(primary));
-    put_link(words, 1, count(secondary));
+    put_link(words, 0, names.primaries);
+    put_link(words, 1, count(names.secondary));
     put_link(words, 2, options);
-    write_options(primary, secondary, front, rest, words, 3);
+    write_options(names, lines, words, 3);
 }
 
-// The words of a text whose items are known, from the lines after theirs. The first of these has the number `number`.
-fn read_options(
-    primary: &[u8],
-    secondary: &[u8],
-    front: bool,
-    rest: &[u8],
-    number: usize,
-    words: &mut [i32],
-) -> Reading
-    requires parts { Parts primary.now secondary.now × Short rest.now }
-    requires le_number { (1 ≤ number) × (number ≤ 65537) }
-    ensures { record { answer = result; words = words.new } ≡ under_options front (known front primary.now secondary.now) number rest.now words.old }
+// The words of a text whose items are known, from the lines after theirs.
+fn read_options(names: &Names<'_>, lines: Lines<'_>, words: &mut [i32]) -> Result<usize, Unread>
+    ensures { record { answer = result; words = words.new } ≡ under names.now lines.entry words.old }
 {
-    match check_options(primary, secondary, front, rest, number) {
-        Checked::Faulty(line) => Reading::Faulty(line),
-        Checked::Are(options, count) => {
+    match check_options(names, lines) {
+        Err(line) => Err(Unread::Faulty(line)),
+        Ok((options, count)) => {
             if options == 0 {
-                return Reading::Faulty(0);
+                return Err(Unread::Faulty(0));
             }
             if words.len() < 3 + count {
-                return Reading::Refused(9);
+                return Err(Unread::Refused(9));
             }
-            write_problem(primary, secondary, front, rest, options, words);
-            Reading::Words(3 + count)
+            write_problem(names, lines, options, words);
+            Ok(3 + count)
         }
     }
 }
 
-// The words of a text from its items line on.
-fn read_items(items: &[u8], front: bool, rest: &[u8], number: usize, words: &mut [i32]) -> Reading
-    requires short { Short items.now × Short rest.now }
-    requires le_number { (1 ≤ number) × (number ≤ 65537) }
-    ensures { record { answer = result; words = words.new } ≡ under_items front items.now number rest.now words.old }
-{
-    let bar = bar_at(items);
-    let after = past(items, bar);
-    read_options(&items[..bar], &items[after..], front, rest, number, words)
-}
-
-// Writes the problem words of a text over the front of the list, primary names with `#` first or last by the flag, and answers how many
-// there are. A refusal writes nothing.
-pub fn read(text: &[u8], front: bool, words: &mut [i32]) -> Reading
+// Writes the problem words of a text over the front of the list, primary names with `#` first or last by the flag, and
+// answers how many there are. A refusal writes nothing.
+pub fn read(text: &[u8], front: bool, words: &mut [i32]) -> Result<usize, Unread>
     ensures { record { answer = result; words = words.new } ≡ read_call text.now front words.old }
 {
     if 65536 < text.len() {
-        return Reading::Refused(3);
+        return Err(Unread::Refused(3));
     }
-    match find_items(text, front) {
-        Found::Faulty(line) => Reading::Faulty(line),
-        Found::Missing => Reading::Faulty(0),
-        Found::At(from, to, number) => {
-            let after = past(text, to);
-            read_items(&text[from..to], front, &text[after..], number, words)
-        }
+    let mut lines = Lines::of(text);
+    match find_items(&mut lines) {
+        Err(line) => Err(Unread::Faulty(line)),
+        Ok(None) => Err(Unread::Faulty(0)),
+        Ok(Some(items)) => read_options(&Names::of(items, front), lines, words),
     }
 }

@@ -1,157 +1,69 @@
 // The lines of a text.
-ghost use Rattle.std.specs.Prelude.{[], ◌∷◌, ◌≡◌, ◌+◌, ◌*◌, ◌≤◌, length};
-ghost use Rattle.std.proofs.Math.Option.{some};
+ghost use Rattle.std.specs.Prelude.{[], ◌∷◌, ◌≡◌, ◌+◌, ◌≤◌, length, Some};
 ghost use Rattle.std.proofs.lemmas.List.Edits.{sets};
-ghost use Rattle.rules.specs.Text.{line_bad, lines, stated};
-ghost use Rattle.text.specs.Read.{Short, Parts, known, options_words, line_words, Finds, Checks};
+ghost use Rattle.rules.specs.Text.{line_bad};
+ghost use Rattle.text.specs.Pieces.{lines_left};
+ghost use Rattle.text.specs.Names.{known};
+ghost use Rattle.text.specs.Read.{Checks, Finds, options_words};
 
-use crate::items::{count, items_fault};
+use crate::bytes::is_clean;
+use crate::items::items_fault;
+use crate::names::Names;
 use crate::options::{option_fault, write_option};
-use crate::scan::{Stop, is_clean, is_passed, scan};
+use crate::pieces::{Lines, count, is_passed};
 
-// Where the items line begins and ends, with the number of the line after it; or the number of a faulty line.
-#[derive(Clone, Copy)]
-pub enum Found {
-    At(usize, usize, usize),
-    Faulty(usize),
-    Missing,
-}
-
-// How many options there are, and how many words they have; or the number of a faulty line.
-#[derive(Clone, Copy)]
-pub enum Checked {
-    Are(usize, usize),
-    Faulty(usize),
-}
-
-// The items line, if no line up to it is faulty.
-pub fn find_items(text: &[u8], front: bool) -> Found
-    requires { Short text.now }
-    ensures { Finds front text.now result }
+// The items line, or the number of a faulty line up to it. The lines after it are left.
+pub fn find_items<'a>(lines: &mut Lines<'a>) -> Result<Option<&'a [u8]>, usize>
+    ensures { Finds lines.old lines.new result }
 {
-    let mut number = 1;
-    let mut at = 0;
-    while at < text.len() {
-        let end = scan(text, at, Stop::Lf);
-        let line = &text[at..end];
+    while let Some((number, line)) = lines.next() {
         if !is_clean(line) {
-            return Found::Faulty(number);
+            return Err(number);
         }
         if !is_passed(line) {
             if items_fault(line) {
-                return Found::Faulty(number);
+                return Err(number);
             }
-            return Found::At(at, end, number + 1);
+            return Ok(Some(line));
         }
-        number += 1;
-        at = end + 1;
     }
-    Found::Missing
+    Ok(None)
 }
 
 // Whether a line after the items line is faulty.
-fn line_fault(line: &[u8], primary: &[u8], secondary: &[u8], front: bool) -> bool
-    requires { Parts primary.now secondary.now }
-    ensures { result ≡ line_bad (some (known front primary.now secondary.now)) line.now }
+fn line_fault(names: &Names<'_>, line: &[u8]) -> bool
+    ensures { result ≡ line_bad (Some (known names.now)) line.now }
 {
-    if !is_clean(line) {
-        return true;
-    }
-    if is_passed(line) {
-        return false;
-    }
-    option_fault(line, primary, secondary, front)
+    !is_clean(line) || !is_passed(line) && option_fault(names, line)
 }
 
-// 1 for a line that is not passed over.
-fn options_of(line: &[u8]) -> usize
-    ensures { (result ≡ length (stated (line.now ∷ []))) × (result ≤ 1) }
-{
-    if is_passed(line) {
-        return 0;
-    }
-    1
-}
-
-// How many words a line that is not faulty has.
-fn words_of(line: &[u8]) -> usize
-    requires { Short line.now }
-    ensures { (result ≡ line_words line.now) × (result ≤ 1 + 2 * length line.now) }
-{
-    if is_passed(line) {
-        return 0;
-    }
-    1 + 2 * count(line)
-}
-
-// Counts the options of the lines after the items line, and their words, if none is faulty. The first has the number `from`.
-pub fn check_options(
-    primary: &[u8],
-    secondary: &[u8],
-    front: bool,
-    rest: &[u8],
-    from: usize,
-) -> Checked
-    requires parts { Parts primary.now secondary.now × Short rest.now }
-    requires le_from { (1 ≤ from) × (from ≤ 65537) }
-    ensures { Checks front (known front primary.now secondary.now) from rest.now result }
+// How many options the lines after the items line have, and how many words these; or the number of a faulty line.
+pub fn check_options(names: &Names<'_>, lines: Lines<'_>) -> Result<(usize, usize), usize>
+    ensures { Checks (known names.now) lines.entry result }
 {
     let mut options = 0;
     let mut words = 0;
-    let mut number = from;
-    let mut at = 0;
-    while at < rest.len() {
-        let end = scan(rest, at, Stop::Lf);
-        let line = &rest[at..end];
-        if line_fault(line, primary, secondary, front) {
-            return Checked::Faulty(number);
+    for (number, line) in lines {
+        if line_fault(names, line) {
+            return Err(number);
         }
-        options += options_of(line);
-        words += words_of(line);
-        number += 1;
-        at = end + 1;
+        if !is_passed(line) {
+            options += 1;
+            words += 1 + 2 * count(line);
+        }
     }
-    Checked::Are(options, words)
-}
-
-// Writes the words of a line, if it is an option's, at a place of the list, and answers the place after them.
-fn write_line(
-    line: &[u8],
-    primary: &[u8],
-    secondary: &[u8],
-    front: bool,
-    words: &mut [i32],
-    place: usize,
-) -> usize
-    requires parts { Parts primary.now secondary.now × Short line.now }
-    requires line_in_bounds { place + length (options_words (known front primary.now secondary.now) (line.now ∷ [])) ≤ length words.old }
-    ensures value { result ≡ place + length (options_words (known front primary.now secondary.now) (line.now ∷ [])) }
-    ensures words_after { words.new ≡ sets words.old place (options_words (known front primary.now secondary.now) (line.now ∷ [])) }
-{
-    if is_passed(line) {
-        return place;
-    }
-    write_option(line, primary, secondary, front, words, place)
+    Ok((options, words))
 }
 
 // Writes the words of the options at a place of the list.
-pub fn write_options(
-    primary: &[u8],
-    secondary: &[u8],
-    front: bool,
-    rest: &[u8],
-    words: &mut [i32],
-    place: usize,
-)
-    requires parts { Parts primary.now secondary.now × Short rest.now }
-    requires rest_in_bounds { place + length (options_words (known front primary.now secondary.now) (lines rest.now)) ≤ length words.old }
-    ensures { words.new ≡ sets words.old place (options_words (known front primary.now secondary.now) (lines rest.now)) }
+pub fn write_options(names: &Names<'_>, lines: Lines<'_>, words: &mut [i32], place: usize)
+    requires { place + length (options_words (known names.now) (lines_left lines.rest)) ≤ length words.old }
+    ensures { words.new ≡ sets words.old place (options_words (known names.now) (lines_left lines.entry.rest)) }
 {
     let mut next = place;
-    let mut at = 0;
-    while at < rest.len() {
-        let end = scan(rest, at, Stop::Lf);
-        next = write_line(&rest[at..end], primary, secondary, front, words, next);
-        at = end + 1;
+    for (_, line) in lines {
+        if !is_passed(line) {
+            next = write_option(names, line, words, next);
+        }
     }
 }

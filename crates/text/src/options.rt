@@ -1,218 +1,124 @@
 // An option's line.
-ghost use Rattle.std.specs.Prelude.{map, ◌≡◌, ◌+◌, ◌<◌, ◌≤◌, length};
+ghost use Rattle.std.specs.Prelude.{map, ◌≡◌, ◌+◌, ◌<◌, ◌≤◌, length, IfSome, MatchOption, None};
 ghost use Rattle.std.proofs.lemmas.List.Edits.{sets};
-ghost use Rattle.rules.specs.Lists.{has, got};
-ghost use Rattle.rules.specs.Text.{tokens, name_of, same_name, option_bad, option_words, entered};
-ghost use Rattle.text.specs.Read.{Short, Parts, known};
-ghost use Rattle.text.specs.Entries.{Cuts, LowEntry, told, named_as, option_piece_bad, names_piece, piece_words, entries_words};
+ghost use Rattle.rules.specs.Lists.{has};
+ghost use Rattle.rules.specs.Text.{tokens, name_of, same_name, option_bad, option_words, entered, entry_words, written};
+ghost use Rattle.text.specs.Names.{known};
+ghost use Rattle.text.specs.Entries.{CutAs, told, named_as, token_bad, entries_words};
 
-use crate::items::{Class, Place, count, find_name, find_primary};
-use crate::scan::{Stop, same, scan};
+use crate::bytes::{name_len, name_of};
+use crate::names::Names;
+use crate::pieces::{Tokens, count};
 use words::put_link;
 
-// A token's name ends at a place, and it has a colour, 0 for none.
+// What an option's token stands for: an item, and its colour or 0.
 #[derive(Clone, Copy)]
-pub enum Token {
-    Is(usize, usize),
-    Bad,
+pub struct Entry {
+    pub item: usize,
+    pub colour: usize,
 }
 
-// The item and the colour that a token stands for.
-#[derive(Clone, Copy)]
-pub enum Entered {
-    Is(usize, usize),
-    Nothing,
-}
-
-fn wide(x: u8) -> usize
-    ensures { (result ≡ x) × (result < 256) }
+// The parts of `name` or `name:c`, with the colour 0 for none.
+fn cut(token: &[u8]) -> Option<(&[u8], usize)>
+    ensures { MatchOption result (written token.now ≡ None) (CutAs token.now) }
 {
-    x as usize
+    let (name, rest) = token.split_at(name_len(token));
+    if rest.is_empty() {
+        return Some((name, 0));
+    }
+    if rest.len() != 2 || rest[1] == b':' {
+        return None;
+    }
+    Some((name, usize::from(rest[1])))
 }
 
-// `name` or `name:c`.
-fn cut(token: &[u8]) -> Token
-    ensures { Cuts token.now result }
+// The entry of a name and a colour. A primary item has no colour.
+fn entry_named(names: &Names<'_>, name: &[u8], colour: usize) -> Option<Entry>
+    requires { colour < 256 }
+    ensures value { result ≡ told (named_as (known names.now) name.now colour) }
+    ensures low { IfSome result (λ e. (e.item ≤ 131072) × (e.colour < 256)) }
 {
-    let colon = scan(token, 0, Stop::Colon);
-    if colon == token.len() {
-        return Token::Is(colon, 0);
-    }
-    if token.len() - colon != 2 {
-        return Token::Bad;
-    }
-    let colour = token[colon + 1];
-    if colour == b':' {
-        return Token::Bad;
-    }
-    Token::Is(colon, wide(colour))
-}
-
-// The entry of a name and a colour: a primary item has none.
-fn entry(name: &[u8], colour: usize, primary: &[u8], secondary: &[u8], front: bool) -> Entered
-    requires parts { Parts primary.now secondary.now }
-    requires colour_bound { colour < 256 }
-    ensures value { result ≡ told (named_as (known front primary.now secondary.now) name.now colour) }
-    ensures low_entry { LowEntry result }
-{
-    match find_primary(primary, front, name) {
-        Place::At(item) => {
-            if colour == 0 {
-                return Entered::Is(item, 0);
-            }
-            Entered::Nothing
+    if let Some(item) = names.find_primary(name) {
+        if colour != 0 {
+            return None;
         }
-        Place::Past(number) => match find_name(secondary, Class::Any, name, number) {
-            Place::At(item) => Entered::Is(item, colour),
-            Place::Past(_) => Entered::Nothing,
-        },
+        return Some(Entry { item, colour });
     }
+    let item = names.find_secondary(name)?;
+    Some(Entry { item, colour })
 }
 
 // The entry that a token stands for.
-fn entry_of(token: &[u8], primary: &[u8], secondary: &[u8], front: bool) -> Entered
-    requires { Parts primary.now secondary.now }
-    ensures value { result ≡ told (entered (known front primary.now secondary.now) token.now) }
-    ensures low_entry { LowEntry result }
+fn entry_of(names: &Names<'_>, token: &[u8]) -> Option<Entry>
+    ensures value { result ≡ told (entered (known names.now) token.now) }
+    ensures low { IfSome result (λ e. (e.item ≤ 131072) × (e.colour < 256)) }
 {
-    let Token::Is(end, colour) = cut(token) else {
-        return Entered::Nothing;
-    };
-    entry(&token[..end], colour, primary, secondary, front)
-}
-
-// Whether a token, which may be empty and is then none, has that name.
-fn has_name(token: &[u8], name: &[u8]) -> bool
-    ensures { result ≡ names_piece name.now token.now }
-{
-    if token.len() == 0 {
-        return false;
-    }
-    let end = scan(token, 0, Stop::Colon);
-    same(name, &token[..end])
+    let (name, colour) = cut(token)?;
+    entry_named(names, name, colour)
 }
 
 // Whether a token of a line has that name.
 fn named_in(line: &[u8], name: &[u8]) -> bool
     ensures { result ≡ has (same_name name.now) (map name_of (tokens line.now)) }
 {
-    let mut at = 0;
-    while at < line.len() {
-        let end = scan(line, at, Stop::White);
-        if has_name(&line[at..end], name) {
-            return true;
-        }
-        at = end + 1;
-    }
-    false
+    Tokens::of(line).any(|t| name == name_of(t))
 }
 
-fn is_entry(token: &[u8], primary: &[u8], secondary: &[u8], front: bool) -> bool
-    requires { Parts primary.now secondary.now }
-    ensures { result ≡ got (entered (known front primary.now secondary.now) token.now) }
+// Whether a token of an option is at fault, before the rest of its line.
+fn token_fault(names: &Names<'_>, token: &[u8], rest: &[u8]) -> bool
+    ensures { result ≡ token_bad (known names.now) token.now (tokens rest.now) }
 {
-    match entry_of(token, primary, secondary, front) {
-        Entered::Is(_, _) => true,
-        Entered::Nothing => false,
-    }
-}
-
-// Whether a token of an option is at fault, before the rest of its line; an empty one is not.
-fn token_fault(token: &[u8], rest: &[u8], primary: &[u8], secondary: &[u8], front: bool) -> bool
-    requires { Parts primary.now secondary.now }
-    ensures { result ≡ option_piece_bad (known front primary.now secondary.now) token.now (tokens rest.now) }
-{
-    if token.len() == 0 {
-        return false;
-    }
-    if !is_entry(token, primary, secondary, front) {
-        return true;
-    }
-    let name_end = scan(token, 0, Stop::Colon);
-    named_in(rest, &token[..name_end])
+    entry_of(names, token).is_none() || named_in(rest, name_of(token))
 }
 
 // Whether an option's line is faulty.
-pub fn option_fault(line: &[u8], primary: &[u8], secondary: &[u8], front: bool) -> bool
-    requires { Parts primary.now secondary.now }
-    ensures { result ≡ option_bad (known front primary.now secondary.now) (tokens line.now) }
+#[tactic(auto, using(crate::proofs::Faults::option_more, crate::proofs::Faults::no_options))]
+pub fn option_fault(names: &Names<'_>, line: &[u8]) -> bool
+    ensures { result ≡ option_bad (known names.now) (tokens line.now) }
 {
-    let mut at = 0;
-    while at < line.len() {
-        let end = scan(line, at, Stop::White);
-        if token_fault(&line[at..end], &line[end..], primary, secondary, front) {
+    let mut tokens = Tokens::of(line);
+    while let Some(token) = tokens.next() {
+        if token_fault(names, token, tokens.rest) {
             return true;
         }
-        at = end + 1;
     }
     false
 }
 
-// Writes the words of a token's entry at a place of the list, and answers the place after them. A token that is empty has none.
-fn write_entry(
-    token: &[u8],
-    primary: &[u8],
-    secondary: &[u8],
-    front: bool,
-    words: &mut [i32],
-    place: usize,
-) -> usize
-    requires parts { Parts primary.now secondary.now }
-    requires token_in_bounds { place + length (piece_words (known front primary.now secondary.now) token.now) ≤ length words.old }
-    ensures value { result ≡ place + length (piece_words (known front primary.now secondary.now) token.now) }
-    ensures words_after { words.new ≡ sets words.old place (piece_words (known front primary.now secondary.now) token.now) }
+// Writes the words of a token's entry at a place of the list, and answers the place after them.
+fn write_entry(names: &Names<'_>, token: &[u8], words: &mut [i32], place: usize) -> usize
+    requires { place + length (entry_words (entered (known names.now) token.now)) ≤ length words.old }
+    ensures value { result ≡ place + length (entry_words (entered (known names.now) token.now)) }
+    ensures words_after { words.new ≡ sets words.old place (entry_words (entered (known names.now) token.now)) }
 {
-    if token.len() == 0 {
+    let Some(entry) = entry_of(names, token) else {
         return place;
-    }
-    match entry_of(token, primary, secondary, front) {
-        Entered::Is(item, colour) => {
-            put_link(words, place, item);
-            put_link(words, place + 1, colour);
-            place + 2
-        }
-        Entered::Nothing => place,
-    }
+    };
+    put_link(words, place, entry.item);
+    put_link(words, place + 1, entry.colour);
+    place + 2
 }
 
 // Writes the words of an option's entries at a place of the list, and answers the place after them.
-fn write_entries(
-    line: &[u8],
-    primary: &[u8],
-    secondary: &[u8],
-    front: bool,
-    words: &mut [i32],
-    place: usize,
-) -> usize
-    requires parts { Parts primary.now secondary.now }
-    requires line_in_bounds { place + length (entries_words (known front primary.now secondary.now) (tokens line.now)) ≤ length words.old }
-    ensures value { result ≡ place + length (entries_words (known front primary.now secondary.now) (tokens line.now)) }
-    ensures words_after { words.new ≡ sets words.old place (entries_words (known front primary.now secondary.now) (tokens line.now)) }
+fn write_entries(names: &Names<'_>, line: &[u8], words: &mut [i32], place: usize) -> usize
+    requires { place + length (entries_words (known names.now) (tokens line.now)) ≤ length words.old }
+    ensures value { result ≡ place + length (entries_words (known names.now) (tokens line.now)) }
+    ensures words_after { words.new ≡ sets words.old place (entries_words (known names.now) (tokens line.now)) }
 {
     let mut next = place;
-    let mut at = 0;
-    while at < line.len() {
-        let end = scan(line, at, Stop::White);
-        next = write_entry(&line[at..end], primary, secondary, front, words, next);
-        at = end + 1;
+    for token in Tokens::of(line) {
+        next = write_entry(names, token, words, next);
     }
     next
 }
 
 // Writes the words of an option at a place of the list, and answers the place after them.
-pub fn write_option(
-    line: &[u8],
-    primary: &[u8],
-    secondary: &[u8],
-    front: bool,
-    words: &mut [i32],
-    place: usize,
-) -> usize
-    requires parts { Parts primary.now secondary.now × Short line.now }
-    requires line_in_bounds { place + length (option_words (known front primary.now secondary.now) (tokens line.now)) ≤ length words.old }
-    ensures value { result ≡ place + length (option_words (known front primary.now secondary.now) (tokens line.now)) }
-    ensures words_after { words.new ≡ sets words.old place (option_words (known front primary.now secondary.now) (tokens line.now)) }
+pub fn write_option(names: &Names<'_>, line: &[u8], words: &mut [i32], place: usize) -> usize
+    requires short { length line.now ≤ 65536 }
+    requires line_in_bounds { place + length (option_words (known names.now) (tokens line.now)) ≤ length words.old }
+    ensures value { result ≡ place + length (option_words (known names.now) (tokens line.now)) }
+    ensures words_after { words.new ≡ sets words.old place (option_words (known names.now) (tokens line.now)) }
 {
     put_link(words, place, count(line));
-    write_entries(line, primary, secondary, front, words, place + 1)
+    write_entries(names, line, words, place + 1)
 }

@@ -1,4 +1,5 @@
 -- Set-up, and the walk after it. Assumes nothing.
+use Rattle.std.specs.Prelude.{Result, Ok, Err}
 use mathlib.Core.Path.{◌≡◌, refl, sym, ap, ◌∙◌}
 use mathlib.Core.List.{List, [], ◌++◌}
 use Prim.Native.Nat.{ℕ, zero, suc, ◌+◌, ◌≤◌}
@@ -8,18 +9,17 @@ use lib.ListN.{length, take, drop, replicate, length-append, length-replicate}
 use lib.Seq.{take_at}
 use Rattle.rules.specs.declared.Limits.{Limits}
 use Rattle.rules.specs.declared.NextAnswer.{NextAnswer}
+use Rattle.rules.specs.declared.Refused.{Refused}
 use Rattle.rules.specs.declared.Phase.TheVariants.{Ready}
-use Rattle.rules.specs.declared.SetUpAnswer.{SetUpAnswer}
 use Rattle.rules.specs.declared.Sizes.{Sizes}
 use Rattle.rules.specs.declared.State.{State}
-use Rattle.rules.specs.declared.Verdict.{Verdict}
-use Rattle.rules.specs.declared.Verdict.TheVariants.{Refused, Sized}
 use Rattle.rules.specs.Lists.{over}
 use Rattle.rules.specs.Problem.{Problem, library_limits, cut, meant, table_length, verdict, problem_refusal}
 use Rattle.rules.specs.Order.{pick}
 use Rattle.rules.specs.Links.{fresh, table as table_at}
 use Rattle.rules.specs.Walk.{Walk, End, solution, exhausted, paused, made}
-use Rattle.rules.specs.Calls.{profile_from, path_words, end_number, next_answer, next_said, SetUpLent, SetUpOutcome, set_up_room, set_up_said, set_up_as, set_up_call}
+use Rattle.rules.specs.Calls.{profile_from, path_words, end_number, next_answer, walk_said, SetUpLent, SetUpOutcome}
+use Rattle.rules.specs.Calls.{set_up_room, state_said, set_up_as, set_up_call}
 use Rattle.rules.specs.Door.{walk_to}
 use Rattle.tables.specs.Sizes.{fresh_size}
 use Rattle.problem.specs.Measured.{measured, refused_refusal, refused_some, table_bounds}
@@ -38,10 +38,12 @@ front new old {k} e = (omega (arith, length-append new (drop (length new) old)),
 -- ---- set-up
 
 module _ (ws : List ℤ) (l : SetUpLent) where
-  pub set_up_is : {r : SetUpAnswer} {l' : SetUpLent} {k : ℕ} → record { answer = r; lent = l' } ≡ set_up_call library_limits ws l → k ≡ (set_up_said r).number
+  pub set_up_is : {r : Result State Refused} {l' : SetUpLent} {k : ℕ}
+      → record { answer = r; lent = l' } ≡ set_up_call library_limits ws l → k ≡ (state_said r).number
       → record { result = k; lent = l' } ≡ set_up_timed ws l
   set_up_is {l' = l'} e u =
-      ap (λ (i : ℕ). record { result = i; lent = l' }) u ∙ ap (λ (o : SetUpOutcome). record { result = (set_up_said o.answer).number; lent = o.lent }) e
+      ap (λ (i : ℕ). record { result = i; lent = l' }) u
+      ∙ ap (λ (o : SetUpOutcome). record { result = (state_said o.answer).number; lent = o.lent }) e
 
   module _ {r : ℕ} {l' : SetUpLent} (e : record { result = r; lent = l' } ≡ set_up_timed ws l) where
     pub walk_refused : (number : ℕ) → (r ≡ 0 → ⊥) → record { result = r; lent = l' } ≡ walk_timed ws l number
@@ -65,19 +67,23 @@ module _ (ws : List ℤ) (l : SetUpLent) where
       laid = by (problem_refusal library_limits 1 (set_up_room l) ws) refl e
         where
           by : (k : ℕ) → problem_refusal library_limits 1 (set_up_room l) ws ≡ k
-              → ◌≡◌ {A = Timed} (record { result = r; lent = l' }) (record { result = (set_up_said (set_up_as k (meant (cut ws)) l).answer).number; lent = (set_up_as k (meant (cut ws)) l).lent })
+              → ◌≡◌ {A = Timed} (record { result = r; lent = l' }) (record {
+                result = (state_said (set_up_as k (meant
+                    (cut ws)) l).answer).number;
+                lent = (set_up_as k (meant (cut ws)) l).lent;
+              })
               → (problem_refusal library_limits 1 (set_up_room l) ws ≡ 0) × (l' ≡ (set_up_as 0 (meant (cut ws)) l).lent)
           by zero u e = (u, ap (λ (o : Timed). o.lent) e)
           by (suc k) u e = absurd (let n : r ≡ suc k = ap (λ (o : Timed). o.result) e in omega arith)
 
-      module _ {L : Limits} {v : Verdict} (p : L ≡ library_limits) (q : v ≡ verdict L 1 ws) where
+      module _ {L : Limits} {v : Result Sizes ℕ} (p : L ≡ library_limits) (q : v ≡ verdict L 1 ws) where
         -- so the words are not refused again
-        pub not_refused : {k : ℕ} → v ≡ Refused k → ⊥
+        pub not_refused : {k : ℕ} → v ≡ Err k → ⊥
         not_refused {k} u =
-            let d : Refused k ≡ verdict library_limits 1 ws = sym u ∙ q ∙ ap (λ (x : Limits). verdict x 1 ws) p in
+            let d : Err k ≡ verdict library_limits 1 ws = sym u ∙ q ∙ ap (λ (x : Limits). verdict x 1 ws) p in
             omega (arith, refused_some library_limits 1 ws k d, refused_refusal library_limits 1 ws k d (set_up_room l), laid.0)
 
-        pub at_top : {s : Sizes} → v ≡ Sized s → Top ws s l'
+        pub at_top : {s : Sizes} → v ≡ Ok s → Top ws s l'
         at_top {s} u =
             let M = measured library_limits 1 ws s (sym u ∙ q ∙ ap (λ (x : Limits). verdict x 1 ws) p) in
             let A : Accepted library_limits 1 (set_up_room l) ws s = accepted library_limits 1 (set_up_room l) ws laid.0 M.are in
@@ -100,7 +106,7 @@ module _ (ws : List ℤ) (l : SetUpLent) where
 
 -- ---- the walk
 
-end_said : (e : End) (st : State) (v : ℕ) → (next_said (next_answer e st v)).number ≡ end_number e
+end_said : (e : End) (st : State) (v : ℕ) → (walk_said (next_answer e st v)).number ≡ end_number e
 end_said solution st v = refl
 end_said exhausted st v = refl
 end_said paused st v = refl
@@ -120,7 +126,7 @@ module _ {ws : List ℤ} {s : Sizes} {l : SetUpLent} (T : Top ws s l) where
       (whole_to P (pick P) number largest Ready []) (take s.np l.profile) t path profile r
       → length t ≡ table_length s → length path ≡ s.np → length profile ≡ s.np
       → record {
-        result = (next_said r).number;
+        result = (walk_said r).number;
         lent = record {
           table = t ++ drop (table_length s) l.table;
           path = path ++ drop s.np l.path;
@@ -130,8 +136,8 @@ module _ {ws : List ℤ} {s : Sizes} {l : SetUpLent} (T : Top ws s l) where
   fronts_walked number {t} {path} {profile} {r} A a b c =
       let w : Walk = walk_to P (pick P) number largest Ready [] in
       let visited : List ℕ = (whole_to P (pick P) number largest Ready []).visited in
-      let k : (next_said r).number ≡ end_number w.end =
-      ap (λ (x : NextAnswer). (next_said x).number) A.answer ∙ end_said w.end _ _ in
+      let k : (walk_said r).number ≡ end_number w.end =
+      ap (λ (x : NextAnswer). (walk_said x).number) A.answer ∙ end_said w.end _ _ in
       let x = over_part (table_at P (made w.at)) l.table t (table_length s) A.on.at.is a in
       let y = over_part (path_words P.np w.at) l.path path s.np A.on.path_is b in
       let v : profile ≡ profile_from 0 visited (take P.np l.profile) =

@@ -1,7 +1,8 @@
 -- What the timed functions answer and leave: a number, and every lent word.
-use Rattle.std.specs.Prelude.{List, [], ℕ, zero, suc, ◌+◌, ℤ, take}
+use Rattle.std.specs.Prelude.{List, [], ℕ, zero, suc, ◌+◌, ℤ, take, Result, Ok, Err}
 use Rattle.rules.specs.declared.NextAnswer.{NextAnswer}
 use Rattle.rules.specs.declared.NextAnswer.TheVariants as NextSays
+use Rattle.rules.specs.declared.Refused.{Refused}
 use Rattle.rules.specs.declared.Phase.TheVariants.{Ready}
 use Rattle.rules.specs.declared.State.{State}
 use Rattle.rules.specs.Lists.{over}
@@ -9,7 +10,8 @@ use Rattle.rules.specs.Problem.{Problem, library_limits, cut, meant}
 use Rattle.rules.specs.Order.{pick}
 use Rattle.rules.specs.Links.{table as table_at}
 use Rattle.rules.specs.Walk.{Walk, made}
-use Rattle.rules.specs.Calls.{profile_from, path_words, end_number, SetUpLent, SetUpOutcome, set_up_said, set_up_call, NextLent, NextOutcome, next_call}
+use Rattle.rules.specs.Calls.{profile_from, path_words, end_number, SetUpLent, SetUpOutcome, state_said, set_up_call}
+use Rattle.rules.specs.Calls.{NextLent, NextOutcome, next_call}
 use Rattle.rules.specs.Door.{walk_to}
 use Rattle.search.specs.Arrived.{whole_to}
 
@@ -27,7 +29,7 @@ pub record Timed : Type 0 where
 abbrev pub set_up_timed : List ℤ → SetUpLent → Timed
 set_up_timed ws l =
     let o : SetUpOutcome = set_up_call library_limits ws l in
-    record { result = (set_up_said o.answer).number; lent = o.lent }
+    record { result = (state_said o.answer).number; lent = o.lent }
 
 -- the walk to solution `number` from the top, on lists that are set up
 abbrev pub walked : Problem → ℕ → SetUpLent → Timed
@@ -63,11 +65,11 @@ abbrev pub counting : ℕ → NextTimed → NextTimed
 counting n o = record { result = n + o.result; lent = o.lent }
 
 -- where a call answered a solution, what follows; else that is the end
-abbrev pub past : NextAnswer → NextLent → (State → NextTimed) → NextTimed
-past (NextSays.Solution st v) l later = counting 1 (later st)
-past (NextSays.Exhausted st v) l later = record { result = 0; lent = l }
-past (NextSays.Paused st v) l later = record { result = 0; lent = l }
-past (NextSays.Refused st k) l later = record { result = 0; lent = l }
+abbrev pub past : Result NextAnswer Refused → NextLent → (State → NextTimed) → NextTimed
+past (Ok (NextSays.Solution st v)) l later = counting 1 (later st)
+past (Ok (NextSays.Exhausted st v)) l later = record { result = 0; lent = l }
+past (Ok (NextSays.Paused st v)) l later = record { result = 0; lent = l }
+past (Err r) l later = record { result = 0; lent = l }
 
 -- k calls, or as many as answer a solution and one more
 unfoldable pub next_timed : List ℤ → ℕ → NextLent → State → NextTimed

@@ -1,16 +1,17 @@
-// What the benchmark times, over lists that the host lends: set-up, single calls of Next, and the loop of the search alone.
+// What the benchmark times, over lists that the host lends: set-up, single calls of Next, and the loop of the search
+// alone. Each answers a number, as the C interface has it: of document 01, or of calls.
 #![tactic(auto)]
 
 ghost use Rattle.std.specs.Prelude.{◌≡◌, List, ℤ};
 ghost use Rattle.rules.specs.Problem.{cut, meant};
-ghost use Rattle.rules.specs.Calls.{blank, next_said};
+ghost use Rattle.rules.specs.Calls.{blank, walk_said};
 ghost use Rattle.timed.specs.Timed.{set_up_timed, walked, walk_timed, next_timed};
 ghost use Rattle.timed.specs.Fronts.{Top};
 
 use calls::{next, set_up};
 use init::table_words;
 use problem::check;
-use rules::{NextAnswer, Phase, SetUpAnswer, Sizes, State, Verdict, library};
+use rules::{NextAnswer, Phase, Sizes, State, library};
 use search::walk_to;
 
 // The largest allowance.
@@ -27,8 +28,8 @@ pub extern "C" fn timed_set_up(
     ensures { record { result = result; lent = record { table = table.new; path = path.new; profile = profile.new } } ≡ set_up_timed problem.now (record { table = table.old; path = path.old; profile = profile.old }) }
 {
     match set_up(problem, table, path, profile) {
-        SetUpAnswer::SetUp(_) => 0,
-        SetUpAnswer::Refused(_, k) => k,
+        Ok(_) => 0,
+        Err(refused) => refused.number,
     }
 }
 
@@ -50,28 +51,17 @@ pub extern "C" fn timed_next(
         depth: 0,
         updates: 0,
     };
+    // Counted apart from the range: the edit `counts_by_two` changes this count, and nothing else.
     let mut solutions = 0u64;
-    while solutions < most {
+    for _ in 0..most {
         let answer = next(problem, table, spare, path, profile, found, state, LARGEST);
-        let NextAnswer::Solution(at, _) = answer else {
-            return solutions;
+        let Ok(NextAnswer::Solution(at, _)) = answer else {
+            break;
         };
         state = at;
         solutions += 1;
     }
     solutions
-}
-
-// The number of an answer.
-fn number_of(answer: NextAnswer) -> u32
-    ensures { result ≡ (next_said answer).number }
-{
-    match answer {
-        NextAnswer::Solution(_, _) => 0,
-        NextAnswer::Exhausted(_, _) => 20,
-        NextAnswer::Paused(_, _) => 21,
-        NextAnswer::Refused(_, k) => k,
-    }
 }
 
 // The walk to solution `number`, on lists that are set up.
@@ -83,7 +73,12 @@ fn walk_fronts(
     number: u64,
 ) -> NextAnswer
     requires { (ws : List ℤ) × Top ws s (record { table = table.old; path = path.old; profile = profile.old }) }
-    ensures { (ws : List ℤ) → Top ws s (record { table = table.old; path = path.old; profile = profile.old }) → record { result = (next_said result).number; lent = record { table = table.new; path = path.new; profile = profile.new } } ≡ walked (meant (cut ws)) number (record { table = table.old; path = path.old; profile = profile.old }) }
+    ensures { (ws : List ℤ) → Top ws s (record { table = table.old; path = path.old; profile = profile.old })
+        → record {
+          result = (walk_said result).number;
+          lent = record { table = table.new; path = path.new; profile = profile.new };
+        }
+        ≡ walked (meant (cut ws)) number (record { table = table.old; path = path.old; profile = profile.old }) }
 {
     let words = table_words(s);
     let np = s.np;
@@ -116,7 +111,7 @@ pub extern "C" fn timed_walk(
         return refusal;
     }
     match check(problem, library(), 1) {
-        Verdict::Refused(k) => k,
-        Verdict::Sized(s) => number_of(walk_fronts(table, path, profile, s, number)),
+        Ok(s) => walk_fronts(table, path, profile, s, number).number(),
+        Err(refusal) => refusal,
     }
 }

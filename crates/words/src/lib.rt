@@ -43,10 +43,7 @@ pub fn at_least(t: &[i32], a: usize, k: usize) -> bool
     requires { a < length t.now }
     ensures { result ≡ le_z (pos k) (word t.now a) }
 {
-    if is_natural(t, a) {
-        return k <= link_at(t, a);
-    }
-    false
+    is_natural(t, a) && k <= link_at(t, a)
 }
 
 // Whether the word at a is a number below n.
@@ -54,10 +51,7 @@ pub fn is_below(t: &[i32], a: usize, n: usize) -> bool
     requires { a < length t.now }
     ensures { result ≡ below n (word t.now a) }
 {
-    if is_natural(t, a) {
-        return link_at(t, a) < n;
-    }
-    false
+    is_natural(t, a) && link_at(t, a) < n
 }
 
 // Whether the word at a is the number x.
@@ -69,16 +63,10 @@ pub fn is_link(t: &[i32], a: usize, x: usize) -> bool
     t[a] == x as i32
 }
 
-// Whether two lists have the same word at a.
-pub fn same_at(s: &[i32], t: &[i32], a: usize) -> bool
-    requires a_in_bounds { a < length s.now }
-    requires a_in_bounds_2 { a < length t.now }
-    ensures { result ≡ same (word s.now a) (word t.now a) }
-{
-    s[a] == t[a]
-}
-
 // ---- numbers
+
+// No cast here loses a bit, which its proof shows; `try_from` would be no plainer, since it would bring a failure that
+// never comes.
 
 // The word at a, which is not negative.
 pub fn link_at(t: &[i32], a: usize) -> usize
@@ -131,8 +119,7 @@ pub fn lower_at(t: &mut [i32], a: usize)
     requires above { Above t.old a }
     ensures { t.new ≡ fall t.old a }
 {
-    let x = link_at(t, a);
-    put_link(t, a, x - 1);
+    t[a] -= 1;
 }
 
 // One more at a.
@@ -141,39 +128,17 @@ pub fn raise_at(t: &mut [i32], a: usize)
     requires can_rise { CanRise t.old a }
     ensures { t.new ≡ set t.old a (suc_ℤ (word t.old a)) }
 {
-    let x = link_at(t, a);
-    put_link(t, a, x + 1);
+    t[a] += 1;
 }
 
 // The true sum or the cap, whichever is less.
 pub fn capped(a: u64, b: u64) -> u64
     ensures { result ≡ capped a b }
 {
-    if CAP <= b {
-        return CAP;
-    }
-    if a <= CAP - b { a + b } else { CAP }
+    a.saturating_add(b).min(CAP)
 }
 
 // ---- bytes
-
-fn wide(x: u8) -> usize
-    ensures { (result ≡ x) × (result < 256) }
-{
-    x as usize
-}
-
-// The number of the four bytes from `at` on.
-fn quad_at(bytes: &[u8], at: usize) -> usize
-    requires { at + 4 ≤ length bytes.now }
-    ensures value { result ≡ quad_at bytes.now at }
-    ensures upper_bound { result < 4294967296 }
-{
-    wide(bytes[at])
-        + 256 * wide(bytes[at + 1])
-        + 65536 * wide(bytes[at + 2])
-        + 16777216 * wide(bytes[at + 3])
-}
 
 // Writes at k the word of the four bytes from `at` on.
 pub fn take_word(bytes: &[u8], at: usize, t: &mut [i32], k: usize)
@@ -181,12 +146,7 @@ pub fn take_word(bytes: &[u8], at: usize, t: &mut [i32], k: usize)
     requires k_in_bounds { k < length t.old }
     ensures { t.new ≡ set t.old k (signed (quad_at bytes.now at)) }
 {
-    let v = quad_at(bytes, at);
-    if v < 2147483648 {
-        put_link(t, k, v);
-    } else {
-        put_spacer(t, k, 4294967295 - v);
-    }
+    t[k] = i32::from_le_bytes([bytes[at], bytes[at + 1], bytes[at + 2], bytes[at + 3]]);
 }
 
 // Writes the four bytes of x from `at` on.
@@ -194,8 +154,5 @@ pub fn put_bytes(out: &mut [u8], at: usize, x: usize)
     requires { at + 4 ≤ length out.old }
     ensures { out.new ≡ sets out.old at (word_bytes x) }
 {
-    out[at] = (x % 256) as u8;
-    out[at + 1] = (x / 256 % 256) as u8;
-    out[at + 2] = (x / 65536 % 256) as u8;
-    out[at + 3] = (x / 16777216 % 256) as u8;
+    out[at..at + 4].copy_from_slice(&x.to_le_bytes()[..4]);
 }

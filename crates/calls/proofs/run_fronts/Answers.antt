@@ -1,36 +1,10 @@
-use mathlib.Core.Path.{sym, ◌∙◌}
+use mathlib.Core.Path.{◌∙◌}
 use Prim.Native.Nat.{◌≤◌}
 use native.Mathlib.Omega.{arith}
 use lib.ListN.{length}
 use lib.Seq.{length-take-le}
 use Rattle.calls.proofs.Outcomes.{over_part}
 use Rattle.calls.proofs.run_fronts.Goals as goal
-
-pub table_words-words-requires : goal.table_words-words-requires
-table_words-words-requires c = c.requires.small
-
-pub overflow_add-n : goal.overflow_add-n
-overflow_add-n c = omega (arith, c.requires.small)
-
-pub slice_bounds-run-end : goal.slice_bounds-run-end
-slice_bounds-run-end c = omega (arith, c.table_words-words.ensures, c.requires.table_room)
-
-pub slice_bounds-run-end-3 : goal.slice_bounds-run-end-3
-slice_bounds-run-end-3 c = c.requires.path_room
-
-pub slice_bounds-run-end-4 : goal.slice_bounds-run-end-4
-slice_bounds-run-end-4 c = sym (length-take-le _ _ c.requires.path_room)
-
-pub slice_bounds-run-end-5 : goal.slice_bounds-run-end-5
-slice_bounds-run-end-5 c = c.requires.profile_room
-
-pub slice_bounds-run-end-6 : goal.slice_bounds-run-end-6
-slice_bounds-run-end-6 c = sym (length-take-le _ _ c.requires.profile_room)
-
-pub run-requires : goal.run-requires
-run-requires c = let lp = length-take-le c.args.s.np c.args.path.now c.requires.path_room in
-    let lr = length-take-le c.args.s.np c.args.profile.now c.requires.profile_room in
-    record { updates_le_cap = c.requires.updates_fit; profile = record { long = lr ∙ sym lp; small = c.requires.profile_fits }; some_begun = rw c.table_words-words.ensures c.requires.begun; path_in_bounds = omega (arith, c.requires.found_room) }
 
 pub returns : goal.returns
 returns c =

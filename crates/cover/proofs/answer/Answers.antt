@@ -1,34 +1,22 @@
-use mathlib.Core.List.{[], ◌∷◌}
 use mathlib.Core.Path.{refl}
-use native.Mathlib.Omega.{arith}
-use Rattle.cover.specs.declared.open.Opened.TheVariants.{Refused, Faulty}
-use Rattle.cover.proofs.Showing.{last_write, opens_as, refusal_due, refusal_small, refusal_sent}
+use Rattle.std.specs.Prelude.{Err}
+use Rattle.rules.specs.Text.{read_said}
+use Rattle.cover.proofs.Showing.{last_write, opens_as, refusal_due, refusal_small, refusal_sent, unread_short}
 use Rattle.cover.proofs.answer.Goals as goal
 
 pub put_page-requires : goal.put_page-requires
 put_page-requires c =
-    let ns = c.in-Refused.number ∷ [] in
-    let e = opens_as _ c.«open».new.words (Refused c.in-Refused.number) c.«open».ensures c.in-Refused.is in
+    let ns = read_said (Err c.in-Err.unread) in
+    let e = opens_as _ c.«open».new.words (Err c.in-Err.unread) c.«open».ensures c.in-Err.is in
+    let h = unread_short c.in-Err.unread in
     record {
-      due = refusal_due _ ns e c.put_refused-used.ensures (omega arith) c.large_buffer-out.ensures c.requires;
-      used_bound = refusal_small _ ns e c.put_refused-used.ensures (omega arith) c.large_buffer-out.ensures c.requires;
+      due = refusal_due _ ns e c.put_unread-used.ensures h c.large_buffer-out.ensures c.requires;
+      used_bound = refusal_small _ ns e c.put_unread-used.ensures h c.large_buffer-out.ensures c.requires;
     }
 
-pub put_page-requires-in-Faulty : goal.put_page-requires-in-Faulty
-put_page-requires-in-Faulty c =
-    let ns = 13 ∷ c.in-Faulty.line ∷ [] in
-    let e = opens_as _ c.«open».new.words (Faulty c.in-Faulty.line) c.«open».ensures c.in-Faulty.is in
-    record {
-      due = refusal_due _ ns e c.put_faulty-used.ensures (omega arith) c.large_buffer-out.ensures c.requires;
-      used_bound = refusal_small _ ns e c.put_faulty-used.ensures (omega arith) c.large_buffer-out.ensures c.requires;
-    }
-
-pub returns-in-Refused : goal.returns-in-Refused
-returns-in-Refused c =
-    let e = opens_as _ c.«open».new.words (Refused c.in-Refused.number) c.«open».ensures c.in-Refused.is in
-    last_write _ c.put_page.ensures (refusal_sent _ (c.in-Refused.number ∷ []) e c.put_refused-used.ensures (omega arith) c.large_buffer-out.ensures c.requires refl)
-
-pub returns-in-Faulty : goal.returns-in-Faulty
-returns-in-Faulty c =
-    let e = opens_as _ c.«open».new.words (Faulty c.in-Faulty.line) c.«open».ensures c.in-Faulty.is in
-    last_write _ c.put_page-in-Faulty.ensures (refusal_sent _ (13 ∷ c.in-Faulty.line ∷ []) e c.put_faulty-used.ensures (omega arith) c.large_buffer-out.ensures c.requires refl)
+pub returns-in-Err : goal.returns-in-Err
+returns-in-Err c =
+    let ns = read_said (Err c.in-Err.unread) in
+    let e = opens_as _ c.«open».new.words (Err c.in-Err.unread) c.«open».ensures c.in-Err.is in
+    last_write _ c.put_page.ensures
+    (refusal_sent _ ns e c.put_unread-used.ensures (unread_short c.in-Err.unread) c.large_buffer-out.ensures c.requires refl)

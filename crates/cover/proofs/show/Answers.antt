@@ -21,8 +21,8 @@ put_page-requires c =
 pub returns-in-All : goal.returns-in-All
 returns-in-All c = last_write _ c.put_page.ensures (last_sent (c.loop-sent.invariant.4 c.loop-sent-test.true) c.in-All.is)
 
-pub turn-turned-requires : goal.turn-turned-requires
-turn-turned-requires c =
+pub turn-requires : goal.turn-requires
+turn-requires c =
     let S = c.loop-sent.invariant.4 c.loop-sent-test.true in
     let d = more_due S c.in-More.is in
     record {
@@ -34,20 +34,20 @@ turn-turned-requires c =
 pub loop-sent-smaller : goal.loop-sent-smaller
 loop-sent-smaller c =
     nearer
-    (turned _ _ _ c.turn-turned.ensures.moved_as c.in-To.is)
+    (turned _ _ _ c.turn.ensures.moved_as c.in-Some.is)
     (more_some (c.loop-sent.invariant.4 c.loop-sent-test.true) c.in-More.is c.loop-sent.invariant.3)
     c.loop-sent-test.true
 
 pub loop-sent-preserved : goal.loop-sent-preserved
 loop-sent-preserved c =
     let inv = c.loop-sent.invariant in
-    let kept = c.turn-turned.auto in
+    let kept = c.turn.auto in
     let S = inv.4 c.loop-sent-test.true in
-    let filled = c.turn-turned.ensures.turned_as _ _ (more_coming S c.in-More.is) in
-    let m = turned _ _ _ c.turn-turned.ensures.moved_as c.in-To.is in (
+    let filled = c.turn.ensures.turned_as _ _ (more_coming S c.in-More.is) in
+    let m = turned _ _ _ c.turn.ensures.moved_as c.in-Some.is in (
       kept.t ∙ inv.0,
       kept.path ∙ inv.1,
       kept.profile ∙ inv.2,
       kept.out ∙ inv.3,
-      λ h. more_sent S c.in-More.is m filled c.in-To.is h,
+      λ h. more_sent S c.in-More.is m filled c.in-Some.is h,
     )

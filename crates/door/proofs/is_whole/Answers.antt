@@ -1,7 +1,6 @@
 use mathlib.Core.Path.{◌≡◌, sym, ap, ◌∙◌}
 use mathlib.Core.List.{List}
 use native.Mathlib.Omega.{arith}
-use borrow.Author.Rules.{rules}
 use lib.Dec.{leb}
 use lib.Signed.{non_neg}
 use Prim.Native.Nat.{ℕ, ◌/◌}
@@ -14,64 +13,45 @@ use Rattle.door.proofs.is_whole.Goals.{After-take_word, After-link_at-k}
 use Rattle.door.proofs.is_whole.Goals as goal
 
 -- the word read is the option's count
-word_is : (q : After-take_word) → word q.take_word.new.t 0 ≡ word (bytes_words q.args.bytes.now) q.loop-ahead.at
-word_is q = ap (λ (l : List ℤ). word l 0) q.take_word.ensures ∙ sym (word_at q.args.bytes.now q.loop-ahead.at (omega arith))
+word_is : (q : After-take_word) → word q.take_word.new.t 0 ≡ word (bytes_words q.args.bytes.now) q.loop.at
+word_is q = ap (λ (l : List ℤ). word l 0) q.take_word.ensures ∙ sym (word_at q.args.bytes.now q.loop.at (omega arith))
 
 count_is : (q : After-link_at-k)
-    → word (bytes_words q.args.bytes.now) q.loop-ahead.at ≡ pos q.link_at-k.result
+    → word (bytes_words q.args.bytes.now) q.loop.at ≡ pos q.link_at-k.result
 count_is q =
-    sym (ap (λ (l : List ℤ). word l 0) q.take_word.ensures ∙ sym (word_at q.args.bytes.now q.loop-ahead.at (omega arith))) ∙ q.link_at-k.ensures.word_is
+    sym (ap (λ (l : List ℤ). word l 0) q.take_word.ensures ∙ sym (word_at q.args.bytes.now q.loop.at (omega arith)))
+    ∙ q.link_at-k.ensures.word_is
 
-pub loop-ahead-init : goal.loop-ahead-init
-loop-ahead-init c = cut_start (bytes_words c.args.bytes.now) c.args.m (omega (arith, (words_long c.args.bytes.now).1, c.requires))
+pub loop-init : goal.loop-init
+loop-init c = cut_start (bytes_words c.args.bytes.now) c.args.m
+    (omega (arith, (words_long c.args.bytes.now).1, c.requires))
 
 pub returns-then-words-at : goal.returns-then-words-at
-returns-then-words-at c = cut_past c.loop-ahead.invariant (omega arith) (omega (arith, (words_long c.args.bytes.now).0, (words_long c.args.bytes.now).1))
-
-pub overflow_mul-at : goal.overflow_mul-at
-overflow_mul-at c = omega arith
-
-pub take_word-requires : goal.take_word-requires
-take_word-requires c = record { at_in_bounds = omega arith; k_in_bounds = omega arith }
+returns-then-words-at c = cut_past c.loop.invariant (omega arith)
+    (omega (arith, (words_long c.args.bytes.now).0, (words_long c.args.bytes.now).1))
 
 pub returns-then-not-is_natural : goal.returns-then-not-is_natural
 returns-then-not-is_natural c =
-    cut_negative c.loop-ahead.invariant (omega arith) (omega (arith, (words_long c.args.bytes.now).1)) (ap non_neg (sym (word_is (goal.at.returns-then-not-is_natural c).After-take_word)) ∙ sym c.is_natural.ensures ∙ c.if-not-is_natural.true)
-
-pub link_at-k-requires : goal.link_at-k-requires
-link_at-k-requires c = record { a_in_bounds = search rules; natural = rw (sym c.is_natural.ensures ∙ c.if-not-is_natural.false) tt }
-
-pub overflow_sub-words : goal.overflow_sub-words
-overflow_sub-words c = omega arith
-
-pub overflow_sub-words-in-loop-ahead : goal.overflow_sub-words-in-loop-ahead
-overflow_sub-words-in-loop-ahead c = omega arith
-
-pub overflow_mul-k : goal.overflow_mul-k
-overflow_mul-k c = omega (arith, c.link_at-k.ensures.small)
+    cut_negative c.loop.invariant (omega arith) (omega (arith, (words_long c.args.bytes.now).1))
+    (ap non_neg (sym (word_is (goal.at.returns-then-not-is_natural c).After-take_word)) ∙ sym c.is_natural.ensures
+    ∙ c.if-not-is_natural.true)
 
 pub returns-then-words-at-2 : goal.returns-then-words-at-2
 returns-then-words-at-2 c =
-    cut_short c.loop-ahead.invariant (omega arith) (omega (arith, (words_long c.args.bytes.now).1)) c.link_at-k.result (count_is (goal.at.returns-then-words-at-2 c).After-link_at-k) (omega (arith, (words_long c.args.bytes.now).0, (words_long c.args.bytes.now).1))
+    cut_short c.loop.invariant (omega arith) (omega (arith, (words_long c.args.bytes.now).1)) c.link_at-k.result
+    (count_is (goal.at.returns-then-words-at-2 c).After-link_at-k)
+    (omega (arith, (words_long c.args.bytes.now).0, (words_long c.args.bytes.now).1))
 
-pub overflow_mul-at-in-loop-ahead : goal.overflow_mul-at-in-loop-ahead
-overflow_mul-at-in-loop-ahead c = omega (arith, c.link_at-k.ensures.small)
-
-pub overflow_add-at : goal.overflow_add-at
-overflow_add-at c = omega (arith, c.link_at-k.ensures.small)
-
-pub overflow_add-at-in-loop-ahead : goal.overflow_add-at-in-loop-ahead
-overflow_add-at-in-loop-ahead c = omega arith
-
-pub overflow_sub-ahead : goal.overflow_sub-ahead
-overflow_sub-ahead c = omega arith
-
-pub loop-ahead-smaller : goal.loop-ahead-smaller
-loop-ahead-smaller c = omega arith
-
-pub loop-ahead-preserved : goal.loop-ahead-preserved
-loop-ahead-preserved c =
-    cut_turn c.loop-ahead.invariant (omega arith) (omega (arith, (words_long c.args.bytes.now).1)) c.link_at-k.result (count_is (goal.at.loop-ahead-preserved c).After-link_at-k) (omega (arith, (words_long c.args.bytes.now).0, (words_long c.args.bytes.now).1))
+pub loop-preserved : goal.loop-preserved
+loop-preserved c =
+    cut_turn c.loop.invariant (omega arith) (omega (arith, (words_long c.args.bytes.now).1)) c.link_at-k.result
+    (count_is (goal.at.loop-preserved c).After-link_at-k) (omega
+    (arith, (words_long c.args.bytes.now).0, (words_long c.args.bytes.now).1))
 
 pub returns : goal.returns
-returns c = ap (λ (i : ℕ). leb i c.loop-ahead.at) (let e : length c.args.bytes.now / 4 ≡ length (bytes_words c.args.bytes.now) = omega (arith, (words_long c.args.bytes.now).0, (words_long c.args.bytes.now).1) in e) ∙ cut_stop c.loop-ahead.invariant (omega arith)
+returns c = ap (λ (i : ℕ). leb i c.loop.at) (let e : length c.args.bytes.now / 4 ≡ length
+    (bytes_words c.args.bytes.now) = omega (
+      arith,
+      (words_long c.args.bytes.now).0,
+      (words_long c.args.bytes.now).1,
+    ) in e) ∙ cut_stop c.loop.invariant (omega arith)

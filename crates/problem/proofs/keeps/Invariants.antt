@@ -1,8 +1,9 @@
-use Rattle.problem.proofs.KeepLaws.{Looking}
+use mathlib.Core.Path.{◌≡◌}
+use Prim.Native.Nat.{◌+◌, ◌*◌, ◌-◌}
+use Rattle.rules.specs.Problem.{pairs_kept}
+use Rattle.problem.specs.CutLaws.{entries_at}
 use Rattle.problem.proofs.keeps.Given as goal
 
-abbrev pub invariant-loop-left : goal.invariant-loop-left
-invariant-loop-left l = Looking l.ws l.p l.k l.np l.q l.left
-
-abbrev pub decreases-loop-left : goal.decreases-loop-left
-decreases-loop-left l = l.left
+abbrev pub invariant-loop-i : goal.invariant-loop-i
+invariant-loop-i l = pairs_kept l.np (entries_at l.ws l.p l.k) ≡ pairs_kept l.np
+    (entries_at l.ws (l.p + 2 * l.i) (l.k - l.i))

@@ -1,5 +1,5 @@
 use native.Mathlib.Omega.{arith}
-use Rattle.search.proofs.Moving.{header_list, first_choice, no_choice, entry_room, entry_small, entry_trying, entered}
+use Rattle.search.proofs.Moving.{header_list, first_choice, no_choice, entry_room, entry_trying, entered}
 use Rattle.search.proofs.enter.Goals as goal
 
 pub dlink-x-requires : goal.dlink-x-requires
@@ -9,10 +9,8 @@ pub returns-then-x-i : goal.returns-then-x-i
 returns-then-x-i c = λ P s j K.
     rw (no_choice K.picked (c.dlink-x.ensures.value _ _ _ _ _ (header_list K.picked)) c.if-x-i.true) (c.retreat.ensures P s K.on)
 
-pub put_link-requires : goal.put_link-requires
-put_link-requires c =
-    let K = c.requires.3 in
-    record { a_in_bounds = entry_room K; x_bound = entry_small K (first_choice K.picked (c.dlink-x.ensures.value _ _ _ _ _ (header_list K.picked)) c.if-x-i.false) }
+pub put_link-requires-clause-a_in_bounds : goal.put_link-requires-clause-a_in_bounds
+put_link-requires-clause-a_in_bounds c = entry_room c.requires.3
 
 pub try_item-a-requires : goal.try_item-a-requires
 try_item-a-requires c =

@@ -7,6 +7,3 @@ use Rattle.search.proofs.retreat.Given as goal
 
 abbrev pub invariant-loop-l : goal.invariant-loop-l
 invariant-loop-l l = (P : Problem) (s : List Level) → On P l.n s l.initial.t l.initial.path l.depth → Retreating P l.n s l.t l.path l.l
-
-abbrev pub decreases-loop-l : goal.decreases-loop-l
-decreases-loop-l l = l.l

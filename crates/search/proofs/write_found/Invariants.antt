@@ -10,6 +10,3 @@ use Rattle.search.proofs.write_found.Given as goal
 
 abbrev pub invariant-loop-l : goal.invariant-loop-l
 invariant-loop-l l = ((P : Problem) (s : List Level) → On P l.n s l.t l.path l.depth → Writing P s l.path l.l l.initial.found l.found) × (length l.found ≡ length l.initial.found) × (l.l ≤ l.depth)
-
-abbrev pub decreases-loop-l : goal.decreases-loop-l
-decreases-loop-l l = l.l

@@ -1,17 +1,21 @@
-use Rattle.text.proofs.Outcomes.{text_long_refused, text_faulty, text_missing, text_found}
+use Rattle.text.proofs.Outcomes.{read_long, read_faulty, read_missing, read_found}
 use Rattle.text.proofs.read.Goals as goal
 
 pub returns-then-text-gt65536 : goal.returns-then-text-gt65536
-returns-then-text-gt65536 c = text_long_refused c.args.front c.args.text.now c.args.words.now c.if-text-gt65536.true
+returns-then-text-gt65536 c = read_long c.args.front c.args.text.now c.args.words.now c.if-text-gt65536.true
 
-pub returns-in-Faulty : goal.returns-in-Faulty
-returns-in-Faulty c =
-    text_faulty c.args.front c.args.text.now c.args.words.now c.if-text-gt65536.false c.find_items.ensures c.in-Faulty.is
+pub returns-in-Err : goal.returns-in-Err
+returns-in-Err c =
+    read_faulty c.args.front c.args.text.now c.args.words.now c.if-text-gt65536.false c.of-lines.result
+    c.of-lines.ensures.whole c.of-lines.ensures.first c.in-Err.ensures
 
-pub returns-in-Missing : goal.returns-in-Missing
-returns-in-Missing c =
-    text_missing c.args.front c.args.text.now c.args.words.now c.if-text-gt65536.false c.find_items.ensures c.in-Missing.is
+pub returns-in-Ok-None : goal.returns-in-Ok-None
+returns-in-Ok-None c =
+    read_missing c.args.front c.args.text.now c.args.words.now c.if-text-gt65536.false c.of-lines.result
+    c.of-lines.ensures.whole c.of-lines.ensures.first (rw c.in-Ok-None.field-0-is at c.in-Ok-None.ensures)
 
-pub returns-in-At : goal.returns-in-At
-returns-in-At c =
-    text_found c.args.front c.args.text.now c.args.words.now c.if-text-gt65536.false c.find_items.ensures c.in-At.is c.past-after.ensures c.read_items.ensures
+pub returns-in-Ok-Some : goal.returns-in-Ok-Some
+returns-in-Ok-Some c =
+    read_found c.args.front c.args.text.now c.args.words.now c.if-text-gt65536.false c.of-lines.result
+    c.of-lines.ensures.whole c.of-lines.ensures.first c.of.result
+    (rw c.in-Ok-Some.field-0-is at c.in-Ok-Some.ensures) c.of.ensures.value c.of.ensures.flag c.read_options.ensures

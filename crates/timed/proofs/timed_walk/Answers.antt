@@ -4,13 +4,16 @@ use Rattle.timed.proofs.timed_walk.Goals as goal
 
 pub walk_fronts-requires : goal.walk_fronts-requires
 walk_fronts-requires c =
-    (_, at_top _ _ c.timed_set_up-refusal.ensures (omega arith) c.library.ensures c.check.ensures.value c.in-Sized.is)
+    (_, at_top _ _ c.timed_set_up-refusal.ensures (omega arith) c.library.ensures c.check.ensures.value c.in-Ok.is)
 
-pub returns-in-Refused : goal.returns-in-Refused
-returns-in-Refused c =
-    absurd (not_refused _ _ c.timed_set_up-refusal.ensures (omega arith) c.library.ensures c.check.ensures.value c.in-Refused.is)
+pub returns-in-Err : goal.returns-in-Err
+returns-in-Err c =
+    absurd (not_refused _ _ c.timed_set_up-refusal.ensures
+    (omega arith) c.library.ensures c.check.ensures.value c.in-Err.is)
 
-pub returns-in-Sized : goal.returns-in-Sized
-returns-in-Sized c =
-    let T = at_top _ _ c.timed_set_up-refusal.ensures (omega arith) c.library.ensures c.check.ensures.value c.in-Sized.is in
-    walk_done _ _ c.timed_set_up-refusal.ensures (omega arith) c.args.number (rw c.number_of.ensures (c.walk_fronts.ensures _ T))
+pub returns-in-Ok : goal.returns-in-Ok
+returns-in-Ok c =
+    let T = at_top _ _ c.timed_set_up-refusal.ensures
+    (omega arith) c.library.ensures c.check.ensures.value c.in-Ok.is in
+    walk_done _ _ c.timed_set_up-refusal.ensures (omega arith) c.args.number (rw c.number.ensures
+    (c.walk_fronts.ensures _ T))

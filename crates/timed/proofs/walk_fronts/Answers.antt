@@ -1,4 +1,4 @@
-use mathlib.Core.Path.{sym, ◌∙◌}
+use mathlib.Core.Path.{◌∙◌}
 use Prim.Native.Nat.{◌≤◌}
 use native.Mathlib.Omega.{arith}
 use lib.ListN.{length}
@@ -6,27 +6,6 @@ use lib.Seq.{length-take-le}
 use Rattle.rules.specs.Problem.{cut, meant}
 use Rattle.timed.proofs.Walked.{fronts_on, fronts_profile, fronts_walked}
 use Rattle.timed.proofs.walk_fronts.Goals as goal
-
-pub table_words-words-requires : goal.table_words-words-requires
-table_words-words-requires c = c.requires.1.small
-
-pub overflow_add-n : goal.overflow_add-n
-overflow_add-n c = omega (arith, c.requires.1.small)
-
-pub slice_bounds-walk_to-end : goal.slice_bounds-walk_to-end
-slice_bounds-walk_to-end c = omega (arith, c.table_words-words.ensures, c.requires.1.table_room)
-
-pub slice_bounds-walk_to-end-3 : goal.slice_bounds-walk_to-end-3
-slice_bounds-walk_to-end-3 c = c.requires.1.path_room
-
-pub slice_bounds-walk_to-end-4 : goal.slice_bounds-walk_to-end-4
-slice_bounds-walk_to-end-4 c = sym (length-take-le _ _ c.requires.1.path_room)
-
-pub slice_bounds-walk_to-end-5 : goal.slice_bounds-walk_to-end-5
-slice_bounds-walk_to-end-5 c = c.requires.1.profile_room
-
-pub slice_bounds-walk_to-end-6 : goal.slice_bounds-walk_to-end-6
-slice_bounds-walk_to-end-6 c = sym (length-take-le _ _ c.requires.1.profile_room)
 
 pub walk_to-requires : goal.walk_to-requires
 walk_to-requires c = record { profile = fronts_profile c.requires.1; on = (meant (cut c.requires.0), rw c.table_words-words.ensures (fronts_on c.requires.1)) }

@@ -1,16 +1,23 @@
-use mathlib.Core.Path.{refl, sym, ◌∙◌}
-use Rattle.rules.specs.declared.Verdict.TheVariants.{Refused}
-use Rattle.calls.proofs.Pointing.{accept_is, refused_first, words_accepted, then_pointed, laid}
+use native.Mathlib.Omega.{arith}
+use Rattle.std.proofs.lemmas.Result.{err_from_is_err_and}
+use Rattle.calls.proofs.Pointing.{accept_is, refused_first, words_laid, then_pointed}
 use Rattle.calls.proofs.test.test.Goals as goal
 
+pub returns-in_err-s : goal.returns-in_err-s
+returns-in_err-s c =
+    let p = err_from_is_err_and c.from_residual.result c.from_residual.ensures.1 in
+    rw (p.1, p.2) (refused_first _ _ _ _ _
+    (accept_is _ _ _ _ _ c.library.ensures c.min-tables.ensures c.min-lists.ensures _ c.in_err-s.ensures (omega arith)))
+
 pub test_point_of-requires : goal.test_point_of-requires
-test_point_of-requires c = let L = laid c.args.problem.now c.args.table.now c.args.spare.now c.args.path.now c.args.more _ (words_accepted c.args.problem.now c.args.table.now c.args.spare.now c.args.path.now c.args.profile.now c.args.more c.args.state (accept_is c.args.problem.now c.args.table.now c.args.spare.now c.args.path.now c.args.profile.now c.args.more c.args.state c.library.ensures c.shorter-tables.ensures c.shorter-lists.ensures _ c.accept-v.ensures (c.requires)) c.in-Sized.is) in
-    record { laid = L.0; s_in_bounds = L.1 }
+test_point_of-requires c =
+    let (laid, room) = words_laid _ _ _ _ _
+    (accept_is _ _ _ _ _ c.library.ensures c.min-tables.ensures c.min-lists.ensures _ c.in_ok-s.ensures (omega arith))
+    in
+    record { laid = laid; s_in_bounds = room }
 
-pub returns-in-Refused : goal.returns-in-Refused
-returns-in-Refused c =
-    refused_first c.args.problem.now c.args.table.now c.args.spare.now c.args.path.now c.args.profile.now c.args.more c.args.state (Refused c.in-Refused.k) (sym c.in-Refused.is ∙ accept_is c.args.problem.now c.args.table.now c.args.spare.now c.args.path.now c.args.profile.now c.args.more c.args.state c.library.ensures c.shorter-tables.ensures c.shorter-lists.ensures _ c.accept-v.ensures (c.requires)) refl
-
-pub returns-in-Sized : goal.returns-in-Sized
-returns-in-Sized c =
-    then_pointed c.args.problem.now c.args.table.now c.args.spare.now c.args.path.now c.args.profile.now c.args.more c.args.state (accept_is c.args.problem.now c.args.table.now c.args.spare.now c.args.path.now c.args.profile.now c.args.more c.args.state c.library.ensures c.shorter-tables.ensures c.shorter-lists.ensures _ c.accept-v.ensures (c.requires)) c.in-Sized.is c.test_point_of.ensures
+pub returns : goal.returns
+returns c =
+    then_pointed _ _ _ _ _
+    (accept_is _ _ _ _ _ c.library.ensures c.min-tables.ensures c.min-lists.ensures _ c.in_ok-s.ensures (omega arith))
+    c.test_point_of.ensures

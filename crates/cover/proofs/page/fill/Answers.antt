@@ -27,8 +27,8 @@ put_solution-used-requires c =
     let k = c.go.auto.path in
     let q = c.in-Solution.is in
     record {
-      some_on = (_, _, on_there F R k q c.wide.ensures);
-      level_bound = level_low F R k q c.wide.ensures;
+      some_on = (_, _, on_there F R k q refl);
+      level_bound = level_low F R k q refl;
       at_in_bounds = omega (arith, c.loop-out-test.true, c.loop-out.invariant.4);
     }
 
@@ -38,7 +38,7 @@ loop-out-smaller c =
     let R = c.go.ensures _ _ F.coming.begun in
     let k = c.go.auto.path in
     let q = c.in-Solution.is in
-    let p = c.put_solution-used.ensures _ _ (on_there F R k q c.wide.ensures) in
+    let p = c.put_solution-used.ensures _ _ (on_there F R k q refl) in
     omega (arith, put_long p, fill_grows F R k q p, c.loop-out-test.true, c.loop-out.invariant.4)
 
 pub loop-out-preserved : goal.loop-out-preserved
@@ -49,7 +49,7 @@ loop-out-preserved c =
     let room : c.loop-out.used + 1345 ≤ length c.loop-out.out = omega (arith, c.loop-out-test.true, inv.4) in
     let F = inv.5 _ _ c.requires.2 in
     let R = c.go.ensures _ _ F.coming.begun in
-    let p = c.put_solution-used.ensures _ _ (on_there F R k q c.wide.ensures) in (
+    let p = c.put_solution-used.ensures _ _ (on_there F R k q refl) in (
       c.go.auto.t ∙ inv.0,
       k ∙ inv.1,
       c.go.auto.profile ∙ inv.2,
@@ -58,5 +58,5 @@ loop-out-preserved c =
       λ P all C.
           let G = inv.5 P all C in
           let S = c.go.ensures P _ G.coming.begun in
-          fill_turn G S k q (c.put_solution-used.ensures P _ (on_there G S k q c.wide.ensures)) room,
+          fill_turn G S k q (c.put_solution-used.ensures P _ (on_there G S k q refl)) room,
     )

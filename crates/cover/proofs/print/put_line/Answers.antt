@@ -21,17 +21,8 @@ loop-k-init c = line_start c.args.out.now c.args.at c.args.list.now c.args.count
 pub link_at-requires : goal.link_at-requires
 link_at-requires c = record { a_in_bounds = omega arith; natural = c.requires.by_index c.loop-k.k c.loop-k-test.true }
 
-pub overflow_add-k : goal.overflow_add-k
-overflow_add-k c = omega arith
-
 pub put_number-next-requires : goal.put_number-next-requires
 put_number-next-requires c = (omega (arith, c.requires.count_in_bounds_2))
-
-pub overflow_add-k-in-loop-k : goal.overflow_add-k-in-loop-k
-overflow_add-k-in-loop-k c = omega arith
-
-pub loop-k-smaller : goal.loop-k-smaller
-loop-k-smaller c = omega arith
 
 pub loop-k-preserved : goal.loop-k-preserved
 loop-k-preserved c =

@@ -7,5 +7,5 @@ use Rattle.links.proofs.c.dlink.Goals as goal
 pub down_of-requires : goal.down_of-requires
 down_of-requires c = has_link c.args.t.now (omega (arith, c.requires.5.n_is)) (list_word c.requires.5) (omega (arith, list_inside c.requires.5, list_size c.requires.5))
 
-pub returns : goal.returns
-returns c = record { value = λ P held i xs ys L. read c.args.t.now (omega (arith, L.n_is)) (list_word L) c.down_of.ensures; upper_bound = c.down_of.ensures.small }
+pub returns-clause-value : goal.returns-clause-value
+returns-clause-value c = λ P held i xs ys L. read c.args.t.now (omega (arith, L.n_is)) (list_word L) c.down_of.ensures

@@ -1,10 +1,7 @@
 use mathlib.Core.Path.{sym, ◌∙◌}
 use native.Mathlib.Omega.{arith}
-use Rattle.links.proofs.Found.{along_start, along_test, along_node, along_spacer, spacer_negative, spacer_number}
+use Rattle.links.proofs.Found.{along_test, along_node, along_spacer, spacer_number}
 use Rattle.links.proofs.c.option_of.Goals as goal
-
-pub loop-q-init : goal.loop-q-init
-loop-q-init c = λ P held c' N. along_start N
 
 pub has_top-requires : goal.has_top-requires
 has_top-requires c = along_test c.requires.3 (c.loop-q.invariant _ _ _ c.requires.3)
@@ -18,13 +15,9 @@ loop-q-smaller c = omega (arith, along_test c.requires.3 (c.loop-q.invariant _ _
 pub loop-q-preserved : goal.loop-q-preserved
 loop-q-preserved c = λ P held c' N. along_node N (c.loop-q.invariant P held c' N) (sym c.has_top.ensures ∙ c.loop-q-test.true)
 
-pub number_of-requires : goal.number_of-requires
-number_of-requires c = let A = c.loop-q.invariant _ _ _ c.requires.3 in
-    record { q_in_bounds = along_test c.requires.3 A; t = spacer_negative c.args.t.now _ (along_spacer c.requires.3 A (sym c.has_top.ensures ∙ c.loop-q-test.false)) }
-
-pub returns : goal.returns
-returns c = record {
-  value = λ P held c' N. spacer_number c.args.t.now _
-      (along_spacer N (c.loop-q.invariant P held c' N) (sym c.has_top.ensures ∙ c.loop-q-test.false)) c.number_of.ensures;
-  upper_bound = c.number_of.ensures.small;
-}
+pub returns-clause-value : goal.returns-clause-value
+returns-clause-value c =
+    λ P held c' N.
+    spacer_number c.args.t.now _ (along_spacer N (c.loop-q.invariant P held c' N) (sym c.has_top.ensures
+    ∙ c.loop-q-test.false))
+    c.number_of.ensures

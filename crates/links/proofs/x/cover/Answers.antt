@@ -1,11 +1,11 @@
-use mathlib.Core.Path.{refl, ◌∙◌}
+use mathlib.Core.Path.{refl}
 use mathlib.Core.List.{List}
 use Prim.Native.Nat.{ℕ}
 use native.Mathlib.Omega.{arith}
 use Rattle.rules.specs.Problem.{Entry, Problem, items}
 use Rattle.links.specs.Moves.{bare, Done, CanCover}
 use Rattle.links.proofs.Words.{done_at}
-use Rattle.links.proofs.Touching.{meet, touching_few, has_length, has_first, touching_start, touching_long, met_now, touching_some, touching_node, has_next, touching_next, sum_few, met_list, paid}
+use Rattle.links.proofs.Touching.{meet, touching_few, has_first, touching_start, met_now, touching_near, touching_node, has_next, touching_next, sum_few, met_list, paid}
 use Rattle.links.proofs.Covering.{can_touch, hide_meets, can_leave, covered}
 use Rattle.links.proofs.x.cover.Goals as goal
 
@@ -19,14 +19,11 @@ hid d {P} {held} {j} C =
     let M = touching_node (can_touch C) (d.loop-p.invariant P held j C) C.header.is d.loop-p-test.true in
     hide_meets M j (d.hide-updates.ensures P _ held _ M.can)
 
-pub top_of-left-requires : goal.top_of-left-requires
-top_of-left-requires c = has_length (can_touch c.requires.3) c.requires.3.header.is
-
 pub down_of-p-requires : goal.down_of-p-requires
 down_of-p-requires c = has_first (can_touch c.requires.3) c.requires.3.header.is
 
 pub loop-p-init : goal.loop-p-init
-loop-p-init c = λ P held j C. touching_start (can_touch C) C.header.is c.top_of-left.ensures c.down_of-p.ensures
+loop-p-init c = λ P held j C. touching_start (can_touch C) C.header.is c.down_of-p.ensures
 
 pub hide-updates-requires : goal.hide-updates-requires
 hide-updates-requires c =
@@ -40,13 +37,11 @@ pub down_of-p-requires-in-loop-p : goal.down_of-p-requires-in-loop-p
 down_of-p-requires-in-loop-p c =
     has_next (can_touch c.requires.3) (c.loop-p.invariant _ _ _ c.requires.3) c.requires.3.header.is c.loop-p-test.true (hid c c.requires.3)
 
-pub overflow_sub-left : goal.overflow_sub-left
-overflow_sub-left c =
-    omega (arith, touching_some (can_touch c.requires.3) (c.loop-p.invariant _ _ _ c.requires.3) c.requires.3.header.is c.loop-p-test.true)
-
 pub loop-p-smaller : goal.loop-p-smaller
 loop-p-smaller c =
-    omega (arith, touching_some (can_touch c.requires.3) (c.loop-p.invariant _ _ _ c.requires.3) c.requires.3.header.is c.loop-p-test.true)
+    let C = c.requires.3 in
+    touching_near (can_touch C) (c.loop-p.invariant _ _ _ C) C.header.is c.loop-p-test.true
+    (hid c.before C) c.down_of-p-in-loop-p.ensures
 
 pub loop-p-preserved : goal.loop-p-preserved
 loop-p-preserved c =
@@ -66,10 +61,6 @@ unlink_item-requires c = (
 pub overflow_add-result : goal.overflow_add-result
 overflow_add-result c =
     omega (arith, touching_few (c.loop-p.invariant _ _ _ c.requires.3), c.requires.3.header.shown.small)
-
-pub shape_of-t : goal.shape_of-t
-shape_of-t c =
-    c.unlink_item.auto.t ∙ touching_long (can_touch c.requires.3) (c.loop-p.invariant _ _ _ c.requires.3)
 
 pub returns : goal.returns
 returns c =

@@ -1,14 +1,13 @@
-use mathlib.Core.Path.{◌≡◌, refl, sym, ap, ◌∙◌}
+use mathlib.Core.Path.{◌≡◌, refl, ap, ◌∙◌}
 use mathlib.Core.List.{List}
 use Prim.Native.Nat.{ℕ}
-use native.Mathlib.Omega.{arith}
 use lib.IntN.{ℤ}
 use Rattle.rules.specs.Problem.{Entry, Problem, items}
 use Rattle.rules.specs.Links.{linked, touch, remove, run_events}
 use Rattle.tables.specs.Undo.{undo}
 use Rattle.tables.specs.Met.{met_all}
 use Rattle.links.specs.Moves.{bare, CanCover, Covered}
-use Rattle.links.proofs.Untouching.{end_size, still_length, has_last, untouching_start, untouching_size, untouching_end, fore, untouching_some, untouching_node, has_previous, untouching_next}
+use Rattle.links.proofs.Untouching.{has_last, untouching_start, untouching_end, fore, untouching_near, untouching_node, has_previous, untouching_next}
 use Rattle.links.proofs.Covering.{can_touch, bare_hidden, can_return, returned}
 use Rattle.links.proofs.x.uncover.Goals as goal
 
@@ -31,34 +30,36 @@ unhid d {P} {held} {t₁} {j} C w =
     d.unhide.ensures P _ _ held _ (bare_hidden (untouching_node (can_touch C) (d.loop-p.invariant P held t₁ j C w) C.header.is d.loop-p-test.true))
 
 pub relink_item-requires : goal.relink_item-requires
-relink_item-requires c = (_, _, _, _, can_return (can_touch c.requires.4.can) refl refl (now_is c.requires.4) c.requires.4.can.header.is)
-
-pub top_of-left-requires : goal.top_of-left-requires
-top_of-left-requires c = still_length (can_touch c.requires.4.can) (back c.requires.4 (c.relink_item.ensures _ _ c.requires.4.can.header.is)) c.requires.4.can.header.is
+relink_item-requires c =
+    let Q = c.requires.4 in
+    (_, _, _, _, can_return (can_touch Q.can) refl refl (now_is Q) Q.can.header.is)
 
 pub up_of-p-requires : goal.up_of-p-requires
 up_of-p-requires c =
-    has_last (can_touch c.requires.4.can) (back c.requires.4 (c.relink_item.ensures _ _ c.requires.4.can.header.is)) c.requires.4.can.header.is
+    let Q = c.requires.4 in
+    has_last (can_touch Q.can) (back Q (c.relink_item.ensures _ _ Q.can.header.is)) Q.can.header.is
 
 pub loop-p-init : goal.loop-p-init
-loop-p-init c = λ P held t₁ j C w. untouching_start (can_touch C) w C.header.is c.top_of-left.ensures c.up_of-p.ensures
+loop-p-init c = λ P held t₁ j C w. untouching_start (can_touch C) w C.header.is c.up_of-p.ensures
 
 pub unhide-requires : goal.unhide-requires
 unhide-requires c =
-    (_, _, _, _, _, bare_hidden (untouching_node (can_touch c.requires.4.can) (c.loop-p.invariant _ _ _ _ c.requires.4.can (back c.requires.4 (c.relink_item.ensures _ _ c.requires.4.can.header.is))) c.requires.4.can.header.is c.loop-p-test.true))
+    let Q = c.requires.4 in
+    let K = c.loop-p.invariant _ _ _ _ Q.can (back Q (c.relink_item.ensures _ _ Q.can.header.is)) in
+    (_, _, _, _, _, bare_hidden (untouching_node (can_touch Q.can) K Q.can.header.is c.loop-p-test.true))
 
 pub up_of-p-requires-in-loop-p : goal.up_of-p-requires-in-loop-p
 up_of-p-requires-in-loop-p c =
-    has_previous (can_touch c.requires.4.can) (c.loop-p.invariant _ _ _ _ c.requires.4.can (back c.requires.4 (c.relink_item.ensures _ _ c.requires.4.can.header.is))) c.requires.4.can.header.is c.loop-p-test.true
-    (unhid c c.requires.4.can (back c.requires.4 (c.relink_item.ensures _ _ c.requires.4.can.header.is)))
-
-pub overflow_sub-left : goal.overflow_sub-left
-overflow_sub-left c =
-    omega (arith, untouching_some (can_touch c.requires.4.can) (c.loop-p.invariant _ _ _ _ c.requires.4.can (back c.requires.4 (c.relink_item.ensures _ _ c.requires.4.can.header.is))) c.requires.4.can.header.is c.loop-p-test.true)
+    let C = c.requires.4.can in
+    let w = back c.requires.4 (c.relink_item.ensures _ _ C.header.is) in
+    has_previous (can_touch C) (c.loop-p.invariant _ _ _ _ C w) C.header.is c.loop-p-test.true (unhid c C w)
 
 pub loop-p-smaller : goal.loop-p-smaller
 loop-p-smaller c =
-    omega (arith, untouching_some (can_touch c.requires.4.can) (c.loop-p.invariant _ _ _ _ c.requires.4.can (back c.requires.4 (c.relink_item.ensures _ _ c.requires.4.can.header.is))) c.requires.4.can.header.is c.loop-p-test.true)
+    let C = c.requires.4.can in
+    let w = back c.requires.4 (c.relink_item.ensures _ _ C.header.is) in
+    untouching_near (can_touch C) (c.loop-p.invariant _ _ _ _ C w) C.header.is c.loop-p-test.true (unhid c.before C w)
+    c.up_of-p-in-loop-p.ensures
 
 pub loop-p-preserved : goal.loop-p-preserved
 loop-p-preserved c =
@@ -66,11 +67,8 @@ loop-p-preserved c =
     untouching_next (can_touch C) (c.loop-p.invariant P held t₁ j C w) C.header.is c.loop-p-test.true (unhid c.before C w)
     c.up_of-p-in-loop-p.ensures
 
-pub shape_of-t : goal.shape_of-t
-shape_of-t c =
-    untouching_size (can_touch c.requires.4.can) (c.loop-p.invariant _ _ _ _ c.requires.4.can (back c.requires.4 (c.relink_item.ensures _ _ c.requires.4.can.header.is))) ∙ sym
-    (end_size (can_touch c.requires.4.can) (back c.requires.4 (c.relink_item.ensures _ _ c.requires.4.can.header.is))) ∙ c.relink_item.auto.t
-
 pub returns : goal.returns
-returns c = λ P held t₁ j Q. untouching_end (can_touch Q.can)
-    (c.loop-p.invariant P held t₁ j Q.can (back Q (c.relink_item.ensures _ _ Q.can.header.is))) Q.can.header.is c.loop-p-test.false
+returns c =
+    λ P held t₁ j Q.
+    let w = back Q (c.relink_item.ensures _ _ Q.can.header.is) in
+    untouching_end (can_touch Q.can) (c.loop-p.invariant P held t₁ j Q.can w) Q.can.header.is c.loop-p-test.false

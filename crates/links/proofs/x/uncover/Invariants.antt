@@ -1,5 +1,3 @@
--- `links::x::uncover` meets its contract. The loop's invariant: the first nodes of the list, as many as `left` says,
--- are still to be met on the way back. The measure is `left`. Assumes nothing.
 use mathlib.Core.Path.{◌≡◌}
 use mathlib.Core.List.{List}
 use Prim.Native.Nat.{ℕ}
@@ -13,7 +11,8 @@ use Rattle.links.proofs.x.uncover.Given as goal
 
 abbrev pub invariant-loop-p : goal.invariant-loop-p
 invariant-loop-p l = (P : Problem) (held : List Entry) (t₁ : List ℤ) (j : ℕ) → CanCover P held l.n t₁ j l.i
-    → l.initial.t ≡ run_events (items P) t₁ (met_all P held (bare j) (linked P held j)) → Untouching P held (bare j) t₁ l.t l.left l.p
+    → l.initial.t ≡ run_events (items P) t₁ (met_all P held (bare j) (linked P held j))
+    → Untouching P held (bare j) t₁ l.t l.p
 
 abbrev pub decreases-loop-p : goal.decreases-loop-p
-decreases-loop-p l = l.left
+decreases-loop-p l = l.p

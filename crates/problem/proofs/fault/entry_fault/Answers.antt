@@ -1,13 +1,11 @@
 use mathlib.Core.Bool.{Bool, true}
-use mathlib.Core.Path.{◌≡◌, refl, sym, ap, ◌∙◌}
+use mathlib.Core.Path.{◌≡◌, sym, ap, ◌∙◌}
 use Prim.Native.Nat.{ℕ, ◌<◌}
-use native.Mathlib.Omega.{arith}
 use borrow.Author.Tests.{ltb-true}
 use lib.Dec.{ltb}
 use lib.IntN.{ℤ, pos}
-use Rattle.rules.specs.Words.{word, below}
-use Rattle.problem.proofs.MarkLaws.{out_of_range, in_range}
-use Rattle.problem.proofs.Tests.{so, natural_if}
+use Rattle.rules.specs.Words.{below}
+use Rattle.problem.proofs.MarkLaws.{in_range}
 use Rattle.problem.proofs.fault.entry_fault.Goals as goal
 
 -- the item is in range
@@ -17,16 +15,9 @@ passed n e h t = sym (ap (below n) e) ∙ sym h ∙ t
 low : (n : ℕ) {w : ℤ} {x : ℕ} {r : Bool} → w ≡ pos x → r ≡ below n w → r ≡ true → x < n
 low n {w} {x} e h t = ltb-true x n (passed n e h t)
 
-pub returns-then-not-is_below : goal.returns-then-not-is_below
-returns-then-not-is_below c =
-    λ seen M. out_of_range c.args.ws.now c.args.p c.args.np c.args.n seen (sym c.is_below.ensures ∙ c.if-not-is_below.true)
-
-pub link_at-x-requires : goal.link_at-x-requires
-link_at-x-requires c = record { a_in_bounds = omega arith; natural = natural_if (below c.args.n) (word c.args.ws.now c.args.p) (λ k. refl) (so (sym c.is_below.ensures ∙ c.if-not-is_below.false)) }
-
-pub repeat_fault-again-requires : goal.repeat_fault-again-requires
-repeat_fault-again-requires c = omega (arith, low c.args.n c.link_at-x.ensures.word_is c.is_below.ensures c.if-not-is_below.false)
-
 pub returns : goal.returns
 returns c =
-    λ seen M. in_range c.args.ws.now c.args.p c.args.np c.args.n seen c.link_at-x.result c.link_at-x.ensures.word_is (passed c.args.n c.link_at-x.ensures.word_is c.is_below.ensures c.if-not-is_below.false) (M.are c.link_at-x.result (low c.args.n c.link_at-x.ensures.word_is c.is_below.ensures c.if-not-is_below.false)) c.repeat_fault-again.ensures c.colour_fault-colour.ensures c.first_of.ensures
+    λ seen M. in_range c.args.ws.now c.args.p c.args.np c.args.n seen c.link_at-x.result c.link_at-x.ensures.word_is
+    (passed c.args.n c.link_at-x.ensures.word_is c.is_below.ensures c.if-not-is_below.false)
+    (M.are c.link_at-x.result (low c.args.n c.link_at-x.ensures.word_is c.is_below.ensures c.if-not-is_below.false))
+    c.repeat_fault-again.ensures c.colour_fault-colour.ensures c.and.ensures

@@ -1,11 +1,10 @@
-use mathlib.Core.Path.{sym, ◌∙◌}
-use native.Mathlib.Omega.{arith}
-use Rattle.problem.proofs.MarkLaws.{older_later}
+use mathlib.Core.Path.{sym, ap, ◌∙◌}
+use Rattle.problem.specs.Marks.{refused}
 use Rattle.problem.specs.Measured.{whole_options, fault_is}
 use Rattle.problem.proofs.fault.first_fault.Goals as goal
 
-pub options_fault-requires : goal.options_fault-requires
-options_fault-requires c = record { whole = whole_options c.args.problem.now c.args.s c.requires.measured; n_in_bounds = omega arith; older = older_later 3 (omega arith) c.clear.ensures }
+pub options_fault-requires-clause-whole : goal.options_fault-requires-clause-whole
+options_fault-requires-clause-whole c = whole_options c.args.problem.now c.args.s c.requires.measured
 
 pub returns : goal.returns
-returns c = c.options_fault.ensures ∙ sym (fault_is c.args.problem.now c.args.s c.requires.measured)
+returns c = c.options_fault.ensures ∙ ap refused (sym (fault_is c.args.problem.now c.args.s c.requires.measured))

@@ -1,5 +1,4 @@
 use mathlib.Core.List.{[]}
-use Prim.Native.Nat.{◌-◌}
 use Rattle.rules.specs.Problem.{Problem}
 use Rattle.search.proofs.Replaying.{Replaying}
 use Rattle.search.specs.Points.{At}
@@ -7,6 +6,3 @@ use Rattle.search.proofs.point.replay.Given as goal
 
 abbrev pub invariant-loop-l : goal.invariant-loop-l
 invariant-loop-l l = (P : Problem) → At P l.n [] l.initial.spare → Replaying P l.n l.depth l.spare l.path l.l
-
-abbrev pub decreases-loop-l : goal.decreases-loop-l
-decreases-loop-l l = l.depth - l.l

@@ -7,6 +7,3 @@ use Rattle.search.proofs.point.undo.Given as goal
 
 abbrev pub invariant-loop-l : goal.invariant-loop-l
 invariant-loop-l l = (P : Problem) (s : List Level) → Trailed P l.n s l.initial.spare l.path l.depth → Undoing P l.n l.spare l.path l.l
-
-abbrev pub decreases-loop-l : goal.decreases-loop-l
-decreases-loop-l l = l.l

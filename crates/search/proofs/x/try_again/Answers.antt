@@ -1,5 +1,4 @@
-use native.Mathlib.Omega.{arith}
-use Rattle.search.proofs.Moving.{last_node, last_committed, last_covered, in_path, word_natural, last_of, again_list, again, none_left, back, again_small, again_commit, onward}
+use Rattle.search.proofs.Moving.{last_node, last_committed, last_covered, in_path, word_natural, last_of, again_list, again, none_left, back, again_commit, onward}
 use Rattle.search.proofs.x.try_again.Goals as goal
 
 pub link_at-x-requires : goal.link_at-x-requires
@@ -22,8 +21,8 @@ uncover-requires c =
     let L = last_of c.requires.3 c.link_at-x.ensures in
     (_, _, _, _, last_covered L (c.uncommit_all.ensures _ _ _ _ (last_committed L)) (c.top-i.ensures _ _ _ (last_node L)))
 
-pub put_link-requires : goal.put_link-requires
-put_link-requires c = record { a_in_bounds = in_path c.requires.3; x_bound = omega arith }
+pub put_link-requires-clause-a_in_bounds : goal.put_link-requires-clause-a_in_bounds
+put_link-requires-clause-a_in_bounds c = in_path c.requires.3
 
 pub returns-then-y-i : goal.returns-then-y-i
 returns-then-y-i c =
@@ -33,13 +32,8 @@ returns-then-y-i c =
     let T = c.uncommit_all.ensures P _ _ _ (last_committed L) in
     back O (none_left O (c.dlink-y.ensures.value P _ _ _ _ (again_list O L T)) H c.if-y-i.true) (c.uncover.ensures P _ _ _ (last_covered L T H)) c.put_link.ensures
 
-pub put_link-requires-2 : goal.put_link-requires-2
-put_link-requires-2 c =
-    let O = c.requires.3 in
-    let L = last_of O c.link_at-x.ensures in
-    let T = c.uncommit_all.ensures _ _ _ _ (last_committed L) in
-    let N = again O (c.dlink-y.ensures.value _ _ _ _ _ (again_list O L T)) (c.top-i.ensures _ _ _ (last_node L)) c.if-y-i.false in
-    record { a_in_bounds = in_path O; x_bound = again_small O T N }
+pub put_link-requires-2-clause-a_in_bounds : goal.put_link-requires-2-clause-a_in_bounds
+put_link-requires-2-clause-a_in_bounds c = in_path c.requires.3
 
 pub commit_all-requires : goal.commit_all-requires
 commit_all-requires c =

@@ -1,10 +1,9 @@
-use Prim.Native.Nat.{◌-◌}
-use lib.ListN.{length}
-use Rattle.text.proofs.Barring.{Judging}
+use Rattle.std.proofs.Common.{◌≡◌, false, length}
+use Rattle.rules.specs.Text.{items_bad, tokens}
 use Rattle.text.proofs.items.items_fault.Given as goal
 
-abbrev pub invariant-loop-at : goal.invariant-loop-at
-invariant-loop-at l = Judging l.items l.second l.at
+abbrev pub invariant-loop-token : goal.invariant-loop-token
+invariant-loop-token l = items_bad false (tokens l.items) ≡ items_bad l.second (tokens l.tokens.rest.now)
 
-abbrev pub decreases-loop-at : goal.decreases-loop-at
-decreases-loop-at l = length l.items - l.at
+abbrev pub decreases-loop-token : goal.decreases-loop-token
+decreases-loop-token l = length (tokens l.tokens.rest.now)

@@ -1,10 +1,9 @@
-use Prim.Native.Nat.{◌-◌}
-use lib.ListN.{length}
+use Rattle.text.specs.Pieces.{bytes_left}
 use Rattle.text.proofs.Lining.{Seeking}
 use Rattle.text.proofs.lines.find_items.Given as goal
 
-abbrev pub invariant-loop-at : goal.invariant-loop-at
-invariant-loop-at l = Seeking l.front l.text l.number l.at
+abbrev pub invariant-loop-number : goal.invariant-loop-number
+invariant-loop-number l = Seeking l.fn.lines l.lines
 
-abbrev pub decreases-loop-at : goal.decreases-loop-at
-decreases-loop-at l = length l.text - l.at
+abbrev pub decreases-loop-number : goal.decreases-loop-number
+decreases-loop-number l = bytes_left l.lines.rest

@@ -1,11 +1,10 @@
-use Prim.Native.Nat.{◌-◌}
-use lib.ListN.{length}
-use Rattle.text.specs.Read.{known}
-use Rattle.text.proofs.Lining.{PuttingOptions}
+use Rattle.text.specs.Names.{known}
+use Rattle.text.specs.Pieces.{lines_left}
+use Rattle.text.specs.Read.{options_words}
+use Rattle.text.proofs.Putting.{Putting}
 use Rattle.text.proofs.lines.write_options.Given as goal
 
-abbrev pub invariant-loop-at : goal.invariant-loop-at
-invariant-loop-at l = PuttingOptions (known l.front l.primary l.secondary) l.rest l.initial.words l.words l.place l.next l.at
-
-abbrev pub decreases-loop-at : goal.decreases-loop-at
-decreases-loop-at l = length l.rest - l.at
+abbrev pub invariant-loop-line : goal.invariant-loop-line
+invariant-loop-line l =
+    Putting (options_words (known l.names) (lines_left l.fn.lines.rest))
+    (options_words (known l.names) (lines_left l.line-iterator.rest)) l.initial.words l.words l.place l.next

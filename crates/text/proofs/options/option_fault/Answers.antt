@@ -1,11 +1,14 @@
-use Rattle.text.proofs.Entering.{tried_fault, tried_turn, tried_end}
+use Rattle.std.proofs.Common.{sym, ◌∙◌}
+use Rattle.text.specs.Names.{known}
+use Rattle.text.proofs.Faults.{option_found, option_passed}
 use Rattle.text.proofs.options.option_fault.Goals as goal
 
 pub returns-then-token_fault : goal.returns-then-token_fault
-returns-then-token_fault c = tried_fault c.loop-at.invariant c.scan-end.ensures c.token_fault.ensures c.if-token_fault.true
+returns-then-token_fault c =
+    option_found c.in-Some.ensures.steps (known c.args.names.now) c.token_fault.ensures c.if-token_fault.true
+    ∙ sym c.loop-token.invariant
 
-pub loop-at-preserved : goal.loop-at-preserved
-loop-at-preserved c = tried_turn c.loop-at.invariant c.scan-end.ensures c.token_fault.ensures c.if-token_fault.false
-
-pub returns : goal.returns
-returns c = tried_end c.loop-at.invariant c.loop-at-test.false
+pub loop-token-preserved : goal.loop-token-preserved
+loop-token-preserved c =
+    c.loop-token.invariant ∙ option_passed c.in-Some.ensures.steps (known c.args.names.now) c.token_fault.ensures
+    c.if-token_fault.false

@@ -1,11 +1,11 @@
-use Prim.Native.Nat.{◌-◌}
-use lib.ListN.{length}
-use Rattle.text.specs.Read.{known}
-use Rattle.text.proofs.Entering.{Trying}
+use Rattle.std.proofs.Common.{◌≡◌, length}
+use Rattle.rules.specs.Text.{option_bad, tokens}
+use Rattle.text.specs.Names.{known}
 use Rattle.text.proofs.options.option_fault.Given as goal
 
-abbrev pub invariant-loop-at : goal.invariant-loop-at
-invariant-loop-at l = Trying (known l.front l.primary l.secondary) l.line l.at
+abbrev pub invariant-loop-token : goal.invariant-loop-token
+invariant-loop-token l = option_bad (known l.names) (tokens l.line) ≡ option_bad (known l.names)
+    (tokens l.tokens.rest.now)
 
-abbrev pub decreases-loop-at : goal.decreases-loop-at
-decreases-loop-at l = length l.line - l.at
+abbrev pub decreases-loop-token : goal.decreases-loop-token
+decreases-loop-token l = length (tokens l.tokens.rest.now)

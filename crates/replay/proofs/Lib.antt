@@ -1,4 +1,0 @@
-pub mod Buffers
-pub mod Fills
-pub mod Operands
-pub mod Runs

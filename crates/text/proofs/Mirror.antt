@@ -1,0 +1,78 @@
+-- The words of the definitions are std's. Assumes nothing.
+use Rattle.std.proofs.Common.{◌≡◌, ℕ, Bool, true, false, ◌&&◌, ◌||◌, cond, List, map, [], ◌∷◌, eqb, ◌+◌, Some, filter, refl, sym, ap, ◌∙◌}
+use borrow.Author.Tests.{eq-eqb, ne_eqb, eqb-true, eqb-false}
+use Rattle.std.specs.List.{list_any, list_all, slice_split, onto_first, position_from, starts_with}
+use lib.Pointwise.{pointwise}
+use Rattle.rules.specs.Lists.{also, keep, each, has}
+use Rattle.rules.specs.Text.{parted, split, barred, name_of, place, same_name}
+
+module _ {A : Type 0} (p : A → Bool) where
+  pub each_all : (xs : List A) → each p xs ≡ list_all p xs
+  unfolding each
+  each_all [] = refl
+  each_all (x ∷ xs) = ap (λ (b : Bool). p x && b) (each_all xs)
+
+  pub has_any : (xs : List A) → has p xs ≡ list_any p xs
+  unfolding has
+  has_any [] = refl
+  has_any (x ∷ xs) = ap (λ (b : Bool). p x || b) (has_any xs)
+
+  pub keep_filter : (xs : List A) → keep p xs ≡ filter p xs
+  unfolding keep
+  keep_filter [] = refl
+  keep_filter (x ∷ xs) = ap (also (p x) x) (keep_filter xs) ∙ by (p x)
+    where
+      by : (b : Bool) → also b x (filter p xs) ≡ cond b (x ∷ filter p xs) (filter p xs)
+      by true = refl
+      by false = refl
+
+  pub split_slice : (xs : List A) → split p xs ≡ slice_split p xs
+  unfolding split
+  split_slice [] = refl
+  split_slice (x ∷ xs) = ap (parted (p x) x) (split_slice xs) ∙ by (p x) (slice_split p xs)
+    where
+      by : (b : Bool) (ps : List (List A)) → parted b x ps ≡ cond b ([] ∷ ps) (onto_first x ps)
+      by true ps = refl
+      by false [] = refl
+      by false (q ∷ ps) = refl
+
+pub same_pointwise : (a b : List ℕ) → same_name a b ≡ pointwise eqb a b
+unfolding same_name
+same_pointwise [] [] = refl
+same_pointwise [] (y ∷ b) = refl
+same_pointwise (x ∷ a) [] = refl
+same_pointwise (x ∷ a) (y ∷ b) = ap (λ (r : Bool). eqb x y && r) (same_pointwise a b)
+
+module _ (t : List ℕ) where
+  pub place_position : (k : ℕ) (ns : List (List ℕ)) → place k t ns ≡ position_from (pointwise eqb t) k ns
+  unfolding place
+  place_position k [] = refl
+  place_position k (n ∷ ns) =
+      rw (same_pointwise t n) (ap (cond (pointwise eqb t n) (Some k)) (place_position (k + 1) ns))
+
+  pub stands_any : (ns : List (List ℕ)) → has (same_name t) ns ≡ list_any (pointwise eqb t) ns
+  unfolding has
+  stands_any [] = refl
+  stands_any (n ∷ ns) = rw (same_pointwise t n) (ap (λ (b : Bool). pointwise eqb t n || b) (stands_any ns))
+
+  pub named_any : (ns : List (List ℕ)) → has (same_name t) (map name_of ns) ≡ list_any
+      (λ n. pointwise eqb t (name_of n)) ns
+  unfolding has
+  named_any [] = refl
+  named_any (n ∷ ns) =
+      rw (same_pointwise t (name_of n)) (ap (λ (b : Bool). pointwise eqb t (name_of n) || b) (named_any ns))
+
+turned : (a b : ℕ) → eqb a b ≡ eqb b a
+turned a b = by (eqb a b) refl
+  where
+    by : (r : Bool) → eqb a b ≡ r → r ≡ eqb b a
+    by true e = sym (eq-eqb b a (sym (eqb-true a b e)))
+    by false e = sym (ne_eqb b a (λ u. eqb-false a b e (sym u)))
+
+pub barred_starts : (t : List ℕ) → barred t ≡ starts_with eqb t (124 ∷ [])
+barred_starts [] = refl
+barred_starts (b ∷ t) = turned b 124 ∙ by (eqb 124 b)
+  where
+    by : (r : Bool) → r ≡ (r && true)
+    by true = refl
+    by false = refl

@@ -1,0 +1,21 @@
+use Rattle.std.proofs.Common.{rules, ◌+◌, option_map, sym, ap, ◌∙◌}
+use Rattle.text.specs.Names.{primary_names}
+use Rattle.text.proofs.Naming.{beq_is, beq_not, first_number, second_number, no_number}
+use Rattle.text.proofs.names.Names.find_primary.Goals as goal
+
+pub returns-in_err-place-clause-value : goal.returns-in_err-place-clause-value
+returns-in_err-place-clause-value c =
+    let e = no_number c.args.self.now.front c.args.name.now (primary_names c.args.self.now) c.has_sharp-with.ensures
+    (sym c.place_among.ensures.value ∙ c.in_err-place.was) in
+    search rules
+
+pub returns-then-with-self-clause-value : goal.returns-then-with-self-clause-value
+returns-then-with-self-clause-value c =
+    sym (first_number c.args.self.now.front c.args.name.now (primary_names c.args.self.now) c.has_sharp-with.ensures
+    (beq_is _ _ c.if-with-self.true) ∙ sym c.place_among.ensures.value ∙ c.in_ok-place.was)
+
+pub returns-else-with-self-clause-value : goal.returns-else-with-self-clause-value
+returns-else-with-self-clause-value c =
+    sym (second_number c.args.self.now.front c.args.name.now (primary_names c.args.self.now) c.has_sharp-with.ensures
+    (beq_not _ _ c.if-with-self.false) c.count_of.ensures.value
+    ∙ ap (option_map (λ i. c.count_of.result + i)) (sym c.place_among.ensures.value ∙ c.in_ok-place.was))

@@ -1,0 +1,18 @@
+use Rattle.std.proofs.Common.{rules, eqb}
+use mathlib.Core.Bool.{beq}
+use borrow.Author.Tests.{tests}
+use lib.Pointwise.{pointwise}
+use Rattle.std.proofs.lemmas.Iterator.{YieldsList-from_take}
+use Rattle.std.proofs.lemmas.Iterator.Consumers.{YieldsList-from_filter}
+use Rattle.std.proofs.lemmas.Iterator.Search.{position_from_yields_List}
+use Rattle.rules.specs.Text.{sharp, tokens}
+use Rattle.text.proofs.Coming.{tokens_come}
+use Rattle.text.proofs.names.Names.place_among.Goals as goal
+
+pub returns-clause-value : goal.returns-clause-value
+returns-clause-value c =
+    position_from_yields_List (pointwise eqb c.args.name.now) c.position.new.self _ _ c.position.ensures.ran
+    (YieldsList-from_filter _ (λ t. beq (sharp t) c.args.with)
+    (YieldsList-from_take c.args.self.now.primaries (tokens_come (tokens c.args.self.now.items.now) (cc)) (cc))
+    c.filter.ensures.closure (λ x r q k. search (rules, tests)))
+    (λ x b q k. search (rules, tests))

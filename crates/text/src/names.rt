@@ -1,0 +1,100 @@
+// The names of an items line, and their numbers.
+ghost use Rattle.std.specs.Prelude.{◌≤◌, length};
+ghost use Rattle.rules.specs.Text.{tokens};
+
+use crate::bytes::{has_sharp, is_bar};
+use crate::pieces::Tokens;
+
+// The names of an items line: so many stand before its `|`, and others after it. Primary names with `#` are numbered first
+// or last, by the flag.
+#[derive(Clone, Copy)]
+pub struct Names<'a> {
+    pub items: &'a [u8],
+    pub primaries: usize,
+    pub secondary: &'a [u8],
+    pub front: bool,
+    ghost few: { (length (tokens items.now) ≤ 65536) × (length (tokens secondary.now) ≤ 65536) },
+    ghost counted: { primaries ≤ length (tokens items.now) },
+}
+
+impl<'a> Names<'a> {
+    ghost use Rattle.std.specs.Prelude.{◌≡◌, ◌≤◌, IfSome, filter, length};
+    ghost use mathlib.Core.Bool.{beq};
+    ghost use Rattle.rules.specs.Text.{items_of, place, sharp, tokens};
+    ghost use Rattle.text.specs.Names.{known, place_in, primary_names};
+
+    pub fn of(items: &'a [u8], front: bool) -> Names<'a>
+        requires { length items.now ≤ 65536 }
+        ensures value { known result ≡ items_of front (tokens items.entry.now) }
+        ensures flag { result.front ≡ front }
+    {
+        let mut tokens = Tokens::of(items);
+        let mut primaries = 0;
+        while let Some(token) = tokens.next() {
+            if is_bar(token) {
+                break;
+            }
+            primaries += 1;
+        }
+        Names {
+            items,
+            primaries,
+            secondary: tokens.rest,
+            front,
+        }
+    }
+
+    // Where a name stands among the primary names with `#`, or among those without.
+    fn place_among(&self, with: bool, name: &[u8]) -> Option<usize>
+        ensures value { result ≡ place_in name.now (filter (λ t. beq (sharp t) with) (primary_names self.now)) }
+        ensures low { IfSome result (λ k. k ≤ 65536) }
+    {
+        Tokens::of(self.items)
+            .take(self.primaries)
+            .filter(|t| has_sharp(t) == with)
+            .position(|t| name == t)
+    }
+
+    // How many primary names have a `#`, or have none.
+    fn count_of(&self, with: bool) -> usize
+        ensures value { result ≡ length (filter (λ t. beq (sharp t) with) (primary_names self.now)) }
+        ensures low { result ≤ 65536 }
+    {
+        Tokens::of(self.items)
+            .take(self.primaries)
+            .filter(|t| has_sharp(t) == with)
+            .count()
+    }
+
+    // The number of a primary name.
+    pub fn find_primary(&self, name: &[u8]) -> Option<usize>
+        ensures value { result ≡ place 0 name.now (known self.now).primary }
+        ensures low { IfSome result (λ k. k ≤ 131072) }
+    {
+        let with = has_sharp(name);
+        let place = self.place_among(with, name)?;
+        if with == self.front {
+            Some(place)
+        } else {
+            Some(self.count_of(!with) + place)
+        }
+    }
+
+    // Where a name stands among the secondary names.
+    fn place_after(&self, name: &[u8]) -> Option<usize>
+        ensures value { result ≡ place_in name.now (tokens self.now.secondary.now) }
+        ensures low { IfSome result (λ k. k ≤ 65536) }
+    {
+        Tokens::of(self.secondary).position(|t| name == t)
+    }
+
+    // The number of a secondary name.
+    #[tactic(auto, using(crate::proofs::Naming::place_at))]
+    pub fn find_secondary(&self, name: &[u8]) -> Option<usize>
+        ensures value { result ≡ place self.now.primaries name.now (known self.now).secondary }
+        ensures low { IfSome result (λ k. k ≤ 131072) }
+    {
+        let place = self.place_after(name)?;
+        Some(self.primaries + place)
+    }
+}
