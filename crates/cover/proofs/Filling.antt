@@ -5,7 +5,7 @@ use Prim.Native.Nat.{ℕ, zero, suc, ◌+◌, ◌≤◌, ◌<◌}
 use native.Mathlib.Omega.{arith}
 use lib.IntN.{ℤ, pos}
 use lib.ListN.{length, get_or, take, drop, length-append, length-map, get_or-append, get_or-map}
-use lib.Seq.{sets-eq, take_at, length-take-le}
+use lib.Seq.{take_at}
 use Rattle.rules.specs.declared.NextAnswer.{NextAnswer}
 use Rattle.rules.specs.declared.NextAnswer.TheVariants as NextSays
 use Rattle.rules.specs.declared.Phase.{Phase}
@@ -28,9 +28,8 @@ use Rattle.words.specs.Read.{Natural}
 use Rattle.search.specs.Points.{On, Profile, Ran}
 use Rattle.search.specs.Arrived.{solved, on_level}
 use Rattle.search.specs.Depth.{level_within}
-use Rattle.cover.specs.Lines.{Put}
 use Rattle.cover.specs.Pages.{Coming, Lined, Filling}
-use Rattle.cover.proofs.Printing.{line_short, put_as, put_long, line_some}
+use Rattle.cover.proofs.Printing.{line_short, line_some}
 
 -- ---- the profile
 
@@ -53,36 +52,31 @@ after e st w = record { phase = phase_after e; depth = length w.at; updates = ca
 -- ---- the lines in the buffer
 
 -- one line more
-lined_more : {done : List (List ℕ)} {out out' : List ℕ} {used used' : ℕ} (x : List ℕ) → Lined done out used
-    → Put out used (line x) out' used' → used + length (line x) ≤ length out → Lined (done ++ x ∷ []) out' used'
+lined_more : {done : List (List ℕ)} {out out' : List ℕ} (x : List ℕ) → Lined done out → out' ≡ out ++ line x
+    → length out + length (line x) ≤ 65536 → Lined (done ++ x ∷ []) out'
 unfolding flat
-lined_more {done} {out} {out'} {used} {used'} x L p h =
-    let l : length (take used out ++ line x) ≡ used' =
-    length-append (take used out) (line x) ∙ omega (arith, length-take-le used out L.within, p.end) in
-    record {
-      within = omega (arith, p.end, put_long p);
-      is =
-          ap (take used') (p.is ∙ sets-eq (line x) out used h)
-          ∙ take_at (take used out ++ line x) (drop (used + length (line x)) out) used' l
-          ∙ ap (λ (y : List ℕ). y ++ line x) L.is
-          ∙ ap (λ (y : List ℕ). flat line done ++ y) (sym (append-nil (line x))) ∙ sym (flat_append line done (x ∷ []));
-    }
+lined_more {done} {out} x L p h = record {
+  within = omega (arith, h, ap length p ∙ length-append out (line x));
+  is =
+      p ∙ ap (λ (y : List ℕ). y ++ line x) L.is
+      ∙ ap (λ (y : List ℕ). flat line done ++ y) (sym (append-nil (line x))) ∙ sym (flat_append line done (x ∷ []));
+}
 
 -- ---- the loop
 
-pub fill_start : {P : Problem} {n : ℕ} {all : List (List ℕ)} {t path : List ℤ} {profile : List ℕ} {st : State}
-    (out : List ℕ) → Coming P n all t path profile st → Filling P n all t path profile out st 0
+pub fill_start : {P : Problem} {n : ℕ} {all : List (List ℕ)} {t path : List ℤ} {profile out : List ℕ} {st : State}
+    → out ≡ [] → Coming P n all t path profile st → Filling P n all t path profile out st
 unfolding flat
-fill_start {all = all} out C = record {
+fill_start {all = all} e C = record {
   done = [];
   left = all;
   parts = refl;
-  lined = record { within = omega arith; is = refl };
+  lined = record { within = omega (arith, ap length e); is = e };
   coming = C;
 }
 
-module _ {P : Problem} {n : ℕ} {all : List (List ℕ)} {t path : List ℤ} {profile out : List ℕ} {state : State} {used : ℕ}
-    (F : Filling P n all t path profile out state used) where
+module _ {P : Problem} {n : ℕ} {all : List (List ℕ)} {t path : List ℤ} {profile out : List ℕ} {state : State}
+    (F : Filling P n all t path profile out state) where
   abbrev pub piece : Walk
   piece = resume P (pick P) 18446744073709551615 state.phase F.coming.s
 
@@ -133,11 +127,16 @@ module _ {P : Problem} {n : ℕ} {all : List (List ℕ)} {t path : List ℤ} {pr
       pub level_low : {d : ℕ} → d ≡ at.depth → d ≤ 64
       level_low e = omega (arith, level_within (on_there e), l, F.coming.low)
 
-      module _ {out' : List ℕ} {used' : ℕ} (p : Put out used (line (numbers piece.at)) out' used') where
-        pub fill_grows : used < used'
-        fill_grows = omega (arith, p.end, line_some (numbers piece.at))
+      module _ {out' : List ℕ} (p : out' ≡ out ++ line (numbers piece.at)) where
+        pub fill_grows : length out < length out'
+        fill_grows =
+            omega (
+              arith,
+              ap length p ∙ length-append out (line (numbers piece.at)),
+              line_some (numbers piece.at),
+            )
 
-        pub fill_turn : used + 1345 ≤ length out → Filling P n all t' path' profile' out' at used'
+        pub fill_turn : length out + 1345 ≤ 65536 → Filling P n all t' path' profile' out' at
         fill_turn room =
             let x : List ℕ = numbers piece.at in
             let a = at_is in
@@ -159,7 +158,7 @@ module _ {P : Problem} {n : ℕ} {all : List (List ℕ)} {t path : List ℤ} {pr
               parts =
                   F.parts ∙ ap (λ (z : List (List ℕ)). F.done ++ z) e
                   ∙ sym (append_assoc F.done (x ∷ []) left');
-              lined = lined_more x F.lined p (omega arith);
+              lined = lined_more x F.lined p (omega (arith, room, short));
               coming = record {
                 s = piece.at;
                 begun = record { on = on_there refl; done_top = λ z. cannot (cc) };
@@ -177,17 +176,17 @@ module _ {P : Problem} {n : ℕ} {all : List (List ℕ)} {t path : List ℤ} {pr
             }
 
     -- a walk that found no solution left none to come
-    pub fill_ends : ((at : State) (v : ℕ) → r ≡ NextSays.Solution at v → ⊥) → Lined all out used
+    pub fill_ends : ((at : State) (v : ℕ) → r ≡ NextSays.Solution at v → ⊥) → Lined all out
     fill_ends k = by piece.end refl
       where
-        by : (e : End) → piece.end ≡ e → Lined all out used
+        by : (e : End) → piece.end ≡ e → Lined all out
         by solution z =
             absurd (k _ _ (R.answer ∙ ap (λ (x : End). next_answer x (moved (started state) piece) (length piece.visited)) z))
         by paused z = absurd (never_paused z)
         by exhausted z =
             let e : F.left ≡ [] =
             found_told ∙ ap (λ (y : End). found_by y piece.at ++ (remains P (pick P) y piece.at).found) z in
-            subst (λ (y : List (List ℕ)). Lined y out used)
+            subst (λ (y : List (List ℕ)). Lined y out)
             (sym (F.parts ∙ ap (λ (y : List (List ℕ)). F.done ++ y) e ∙ append-nil F.done)) F.lined
 
 -- ---- the numbers of a point
@@ -207,8 +206,13 @@ module _ {P : Problem} {n : ℕ} {s : List Level} {t path : List ℤ} {level : �
       ap (λ (l : List ℤ). word l k) e ∙ get_or-append (map pos (numbers s)) (drop (length (map pos (numbers s))) old) (pos 0) k (omega (arith, numbers_long)) ∙ get_or-map pos (numbers s) k 0 in
       rw w tt
 
-  pub line_told : {out out' : List ℕ} {at r : ℕ} → Put out at (line (map nat (take level found))) out' r → Put out at (line (numbers s)) out' r
-  line_told p =
-      put_as p
-      (ap line (ap (λ (l : List ℤ). map nat (take level l)) e
-      ∙ ap (map nat) (take_at (map pos (numbers s)) (drop (length (map pos (numbers s))) old) level (length-map (numbers s) pos ∙ numbers_long)) ∙ map_back (numbers s)))
+  pub line_told : (out : List ℕ) {out' : List ℕ} → out' ≡ out ++ line (map nat (take level found))
+      → out' ≡ out ++ line (numbers s)
+  line_told out p =
+      p
+      ∙ ap (λ (l : List ℕ). out ++ line l)
+      (ap (λ (l : List ℤ). map nat (take level l)) e
+      ∙ ap (map nat)
+      (take_at (map pos (numbers s)) (drop (length (map pos (numbers s))) old) level
+      (length-map (numbers s) pos ∙ numbers_long))
+      ∙ map_back (numbers s))

@@ -9,50 +9,17 @@ use native.Mathlib.Omega.{arith}
 use borrow.Author.Tests.{lt-ltb, le-ltb, ltb-true, ltb-false}
 use lib.Dec.{ltb, lit<}
 use lib.IntN.{ℤ, pos}
-use lib.ListN.{length, get_or, take, drop, set, length-append, length-map, length-drop, drop_of_length-le, get_or-map}
-use borrow.Rule.Slice.PartMut.{put_mid}
-use lib.Seq.{sets, sets-eq, length-sets, drop-cons, drop-drop, get_or-take, length-take-le}
+use lib.ListN.{length, get_or, take, drop, length-append, length-map, length-drop, drop_of_length-le, get_or-map}
+use lib.Seq.{drop-cons, get_or-take, length-take-le}
 use Rattle.rules.specs.Words.{word, nat}
 use Rattle.rules.specs.Cover.{decimal_within, decimal, line, refusal_line}
 use Rattle.io.specs.Counts.{IsPrefixLen}
 use Rattle.io.specs.Digits.{hex_digit_ascii, last_digits, IsDigitCount}
-use Rattle.cover.specs.Lines.{Put}
 
 -- ---- one after another
 
-sets_append : (w : List ℕ) (n : ℕ) (xs ys : List ℕ) → sets w n (xs ++ ys) ≡ sets (sets w n xs) (n + length xs) ys
-sets_append w n [] ys = let e : n ≡ n + 0 = omega arith in ap (λ (k : ℕ). sets w k ys) e
-sets_append w n (x ∷ xs) ys =
-    let e : suc n + length xs ≡ n + suc (length xs) = omega arith in
-    sets_append (set w n x) (suc n) xs ys ∙ ap (λ (k : ℕ). sets (sets (set w n x) (suc n) xs) k ys) e
-
-pub put_then : {a b c xs ys : List ℕ} {at m r : ℕ} → Put a at xs b m → Put b m ys c r → Put a at (xs ++ ys) c r
-put_then {a} {b} {c} {xs} {ys} {at} {m} {r} p q = record {
-  end = q.end ∙ omega (arith, p.end, length-append xs ys);
-  is =
-      q.is ∙ ap (λ (l : List ℕ). sets l m ys) p.is ∙ ap (λ (k : ℕ). sets (sets a at xs) k ys) p.end ∙ sym (sets_append a at xs ys);
-}
-
-pub put_one : (out : List ℕ) (at b : ℕ) → Put out at (b ∷ []) (set out at b) (at + 1)
-put_one out at b = record { end = refl; is = refl }
-
-pub put_as : {a b xs ys : List ℕ} {at r : ℕ} → Put a at xs b r → xs ≡ ys → Put a at ys b r
-put_as {a} {b} {at = at} {r = r} p e = record { end = p.end ∙ ap (λ (l : List ℕ). at + length l) e; is = p.is ∙ ap (sets a at) e }
-
-pub put_long : {a b xs : List ℕ} {at r : ℕ} → Put a at xs b r → length b ≡ length a
-put_long {a} {xs = xs} {at = at} p = ap length p.is ∙ length-sets a at xs
-
--- ---- bytes copied
-
--- the bytes of a part become those copied there
-pub copied : (out new ys : List ℕ) (at n : ℕ) → ys ≡ new → n ≡ length new → at + length new ≤ length out
-    → Put out at new (put_mid at n out ys) (at + length new)
-copied out new ys at n e l h = record {
-  end = refl;
-  is =
-      rw (e, l) (ap (λ (x : List ℕ). take at out ++ (new ++ x)) (drop-drop (length new) at out))
-      ∙ sym (append_assoc (take at out) new (drop (at + length new) out)) ∙ sym (sets-eq new out at h);
-}
+pub put_then : (a xs ys : List ℕ) {b c : List ℕ} → b ≡ a ++ xs → c ≡ b ++ ys → c ≡ a ++ (xs ++ ys)
+put_then a xs ys p q = q ∙ ap (λ (l : List ℕ). l ++ ys) p ∙ append_assoc a xs ys
 
 -- ---- digits
 
@@ -147,20 +114,20 @@ step x (m ∷ rest) next count e = rw (lt-ltb next count (omega arith)) (sym (ap
 abbrev pub firsts : List ℤ → ℕ → List ℕ
 firsts list n = map nat (take n list)
 
-pub record Lining (out₀ : List ℕ) (at : ℕ) (list : List ℤ) (count : ℕ) (out : List ℕ) (next k : ℕ) : Type 0 where
+-- what is in the buffer, with what is still to be put
+pub record Lining (out₀ : List ℕ) (list : List ℤ) (count : ℕ) (out : List ℕ) (k : ℕ) : Type 0 where
   pub high : k ≤ count
-  pub low : next ≤ at + 21 * k
-  pub same : sets out₀ at (ahead (firsts list count)) ≡ sets out next (ahead (drop k (firsts list count)))
-  pub counted : at + length (ahead (firsts list count)) ≡ next + length (ahead (drop k (firsts list count)))
-  pub long : length out ≡ length out₀
+  pub low : length out ≤ length out₀ + 21 * k
+  pub same : out₀ ++ ahead (firsts list count) ≡ out ++ ahead (drop k (firsts list count))
 
-pub line_start : (out : List ℕ) (at : ℕ) (list : List ℤ) (count : ℕ) → Lining out at list count out at 0
-line_start out at list count = record { high = omega arith; low = omega arith; same = refl; counted = refl; long = refl }
+pub line_start : (out : List ℕ) (list : List ℤ) (count : ℕ) → Lining out list count out 0
+line_start out list count = record { high = omega arith; low = omega arith; same = refl }
 
 firsts_long : (list : List ℤ) (count : ℕ) → count ≤ length list → length (firsts list count) ≡ count
 firsts_long list count h = length-map (take count list) nat ∙ length-take-le count list h
 
-module _ {out₀ : List ℕ} {at : ℕ} {list : List ℤ} {count : ℕ} {out : List ℕ} {next k : ℕ} (L : Lining out₀ at list count out next k) (room : count ≤ length list) where
+module _ {out₀ : List ℕ} {list : List ℤ} {count : ℕ} {out : List ℕ} {k : ℕ} (L : Lining out₀ list count out k)
+    (room : count ≤ length list) where
   abbrev ns : List ℕ
   ns = firsts list count
 
@@ -170,47 +137,46 @@ module _ {out₀ : List ℕ} {at : ℕ} {list : List ℤ} {count : ℕ} {out : L
       ∙ ap (λ (n : ℕ). get_or ns k 0 ∷ drop n ns) (sym (add-one k))
       ∙ ap (λ (y : ℕ). y ∷ drop (k + 1) ns) (get_or-map nat (take count list) k (pos 0) ∙ ap nat (get_or-take count list k (pos 0) h ∙ e))
 
-  pub line_turn : {x b : ℕ} {out' : List ℕ} {next' : ℕ} → k < count → word list k ≡ pos x → b ≡ cond (ltb (k + 1) count) 32 10 → Put out next (decimal x ++ (b ∷ [])) out' next'
-      → Lining out₀ at list count out' next' (k + 1)
-  line_turn {x} {b} {out'} {next'} h e u p =
-      let l : k + 1 + length (drop (k + 1) ns) ≡ count = omega (arith, length-drop (k + 1) ns, firsts_long list count room) in
+  pub line_turn : {x b : ℕ} {out' : List ℕ} → k < count → word list k ≡ pos x → b ≡ cond (ltb (k + 1) count) 32 10
+      → out' ≡ out ++ (decimal x ++ (b ∷ [])) → Lining out₀ list count out' (k + 1)
+  line_turn {x} {b} {out'} h e u p =
+      let l : k + 1 + length (drop (k + 1) ns) ≡ count =
+      omega (arith, length-drop (k + 1) ns, firsts_long list count room) in
       let s : ahead (drop k ns) ≡ decimal x ++ (b ∷ []) ++ ahead (drop (k + 1) ns) =
-      ap ahead (next_is h e) ∙ step x (drop (k + 1) ns) (k + 1) count l ∙ ap (λ (y : ℕ). decimal x ++ (y ∷ []) ++ ahead (drop (k + 1) ns)) (sym u) in
-      let z = number_short x b in
-      let w = L.low in
-      let f = p.end in
+      ap ahead (next_is h e) ∙ step x (drop (k + 1) ns) (k + 1) count l
+      ∙ ap (λ (y : ℕ). decimal x ++ (y ∷ []) ++ ahead (drop (k + 1) ns)) (sym u) in
       record {
         high = omega arith;
-        low = omega arith;
+        low = omega (arith, L.low, number_short x b, ap length p ∙ length-append out (decimal x ++ (b ∷ [])));
         same =
-            L.same ∙ ap (sets out next) s ∙ sets_append out next (decimal x ++ (b ∷ [])) (ahead (drop (k + 1) ns))
-            ∙ ap (λ (o : List ℕ). sets o (next + length (decimal x ++ (b ∷ []))) (ahead (drop (k + 1) ns))) (sym p.is)
-            ∙ ap (λ (n : ℕ). sets out' n (ahead (drop (k + 1) ns))) (sym f);
-        counted = L.counted ∙ omega (arith, ap length s ∙ length-append (decimal x ++ (b ∷ [])) (ahead (drop (k + 1) ns)));
-        long = put_long p ∙ L.long;
+            L.same ∙ ap (λ (y : List ℕ). out ++ y) s
+            ∙ sym (append_assoc out (decimal x ++ (b ∷ [])) (ahead (drop (k + 1) ns)))
+            ∙ ap (λ (o : List ℕ). o ++ ahead (drop (k + 1) ns)) (sym p);
       }
 
-  pub line_end : (count ≡ 0 → ⊥) → count ≤ k → Put out₀ at (line ns) out next
+  pub line_end : (count ≡ 0 → ⊥) → count ≤ k → out ≡ out₀ ++ line ns
   line_end n h =
-      let d : drop k ns ≡ [] = drop_of_length-le ns (let m = firsts_long list count room in let q : length ns ≤ k = omega arith in q) in
-      put_as {xs = ahead ns} {ys = line ns}
-      (record { end = (let c = L.counted in omega (arith, ap (λ (l : List ℕ). length (ahead l)) d)); is = sym (L.same ∙ ap (λ (l : List ℕ). sets out next (ahead l)) d) })
-      (ahead_line ns (λ z. n (sym (firsts_long list count room) ∙ z)))
+      let d : drop k ns ≡ [] = drop_of_length-le ns (omega (arith, firsts_long list count room)) in
+      sym (append-nil out) ∙ sym (L.same ∙ ap (λ (l : List ℕ). out ++ ahead l) d)
+      ∙ ap (λ (y : List ℕ). out₀ ++ y) (ahead_line ns (λ z. n (sym (firsts_long list count room) ∙ z)))
 
-pub line_none : (out : List ℕ) (at : ℕ) (list : List ℤ) (count : ℕ) → count ≡ 0 → Put out at (line (firsts list count)) (set out at 10) (at + 1)
+pub line_none : (list : List ℤ) {count : ℕ} → count ≡ 0 → ◌≡◌ {A = List ℕ} (10 ∷ []) (line (firsts list count))
 unfolding line
-line_none out at list count e = put_as (put_one out at 10) (sym (ap (λ (n : ℕ). line (firsts list n)) e))
+line_none list e = sym (ap (λ (n : ℕ). line (firsts list n)) e)
 
 -- ---- refusals
 
-abbrev word_refused : List ℕ
+abbrev pub word_refused : List ℕ
 word_refused = 114 ∷ 101 ∷ 102 ∷ 117 ∷ 115 ∷ 101 ∷ 100 ∷ 32 ∷ []
 
-pub refused_put : (n : ℕ) {a b c : List ℕ} {m r : ℕ} → Put a 0 word_refused b m → Put b m (decimal n ++ (10 ∷ [])) c r → Put a 0 (refusal_line (n ∷ [])) c r
+pub refused_put : (a : List ℕ) (n : ℕ) {b c : List ℕ} → b ≡ a ++ word_refused → c ≡ b ++ (decimal n ++ (10 ∷ []))
+    → c ≡ a ++ refusal_line (n ∷ [])
 unfolding refusal_line line
-refused_put n p q = put_then p q
+refused_put a n p q = put_then a _ _ p q
 
-pub faulty_put : (n j : ℕ) {a b c d : List ℕ} {m l r : ℕ} → Put a 0 word_refused b m → Put b m (decimal n ++ (32 ∷ [])) c l → Put c l (decimal j ++ (10 ∷ [])) d r → Put a 0 (refusal_line (n ∷ j ∷ [])) d r
+pub faulty_put : (a : List ℕ) (n j : ℕ) {b c d : List ℕ} → b ≡ a ++ word_refused → c ≡ b ++ (decimal n ++ (32 ∷ []))
+    → d ≡ c ++ (decimal j ++ (10 ∷ [])) → d ≡ a ++ refusal_line (n ∷ j ∷ [])
 unfolding refusal_line line
-faulty_put n j p q s =
-    put_as (put_then p (put_then q s)) (ap (λ (l : List ℕ). word_refused ++ l) (append_assoc (decimal n) (32 ∷ []) (decimal j ++ (10 ∷ []))))
+faulty_put a n j {b} p q s =
+    put_then a _ _ p (put_then b _ _ q s)
+    ∙ ap (λ (l : List ℕ). a ++ (word_refused ++ l)) (append_assoc (decimal n) (32 ∷ []) (decimal j ++ (10 ∷ [])))

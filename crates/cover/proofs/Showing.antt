@@ -8,7 +8,7 @@ use Prim.Native.Nat.{ℕ, zero, suc, ◌+◌, ◌≤◌, ◌<◌, ◌-◌}
 use native.Mathlib.Omega.{arith}
 use lib.IntN.{ℤ, pos}
 use lib.ListN.{length, take, drop, replicate, length-append, length-drop, length-map, length-replicate}
-use lib.Seq.{drop-drop, length-take-le, sets-eq, take_all, take_at, drop_at}
+use lib.Seq.{drop-drop, take_all, take_at, drop_at}
 use Rattle.rules.specs.declared.Phase.TheVariants.{Ready}
 use Rattle.rules.specs.declared.Sizes.{Sizes}
 use Rattle.rules.specs.declared.State.{State}
@@ -31,13 +31,10 @@ use Rattle.knuth.specs.Bounded.{few_visits}
 use Rattle.knuth.specs.Trace.{to_come, rest, whole}
 use Rattle.knuth.proofs.Walks.{whole_found}
 use Rattle.search.specs.Meant.{top_on, top_profile}
-use Rattle.cover.specs.declared.page.Page.{Page}
-use Rattle.cover.specs.declared.page.Page.TheVariants.{All, More}
-use Rattle.cover.specs.Lines.{Put}
 use Rattle.cover.specs.Opening.{Opens}
-use Rattle.cover.specs.Pages.{Coming, Lined, FilledMore, FilledAs, Filled, MovedAs, TurnedAs}
+use Rattle.cover.specs.Pages.{Coming, Lined, FilledMore, FilledAs, Filled}
 use Rattle.knuth.specs.Written.{Due, lost, Moved, Ended}
-use Rattle.cover.proofs.Printing.{line_short, put_long}
+use Rattle.cover.proofs.Printing.{line_short}
 
 -- ---- the first page
 
@@ -108,11 +105,6 @@ nearer {sent} {used} {sent'} m h l = by m.on
     by (inl w) = omega arith
     by (inr w) = omega arith
 
--- where a page was turned, and where it could not be
-pub turned : (sent used sent' : ℕ) {u : Option Page} {next : Page} → MovedAs sent used sent' u → u ≡ Some next
-    → Moved sent used sent'
-turned sent used sent' m q = subst (λ (x : Option Page). MovedAs sent used sent' x) q m
-
 -- `sent` bytes are written, and the lines of these solutions are the others
 pub record Unsent (text : List ℕ) (sent : ℕ) (left : List (List ℕ)) : Type 0 where
   pub within : sent ≤ length (printed text)
@@ -124,15 +116,15 @@ unfolding printed
 none_sent text e z = record { within = omega arith; is = ap (λ (k : ℕ). drop k (printed text)) z ∙ ap printed_of e }
 
 -- the lines in the buffer are the next to be sent, and then the others are left
-module _ (text : List ℕ) {sent : ℕ} {all : List (List ℕ)} (done left : List (List ℕ)) (out : List ℕ) {used : ℕ}
-    (U : Unsent text sent all) (e : all ≡ done ++ left) (L : Lined done out used) where
-  long : length (flat line done) ≡ used
-  long = ap length (sym L.is) ∙ length-take-le used out L.within
+module _ (text : List ℕ) {sent : ℕ} {all : List (List ℕ)} (done left : List (List ℕ)) (out : List ℕ)
+    (U : Unsent text sent all) (e : all ≡ done ++ left) (L : Lined done out) where
+  long : length (flat line done) ≡ length out
+  long = ap length (sym L.is)
 
   parts : drop sent (printed text) ≡ flat line done ++ flat line left
   parts = U.is ∙ ap (flat line) e ∙ flat_append line done left
 
-  counted : sent + (used + length (flat line left)) ≡ length (printed text)
+  counted : sent + (length out + length (flat line left)) ≡ length (printed text)
   counted =
       omega (
         arith,
@@ -142,76 +134,84 @@ module _ (text : List ℕ) {sent : ℕ} {all : List (List ℕ)} (done left : Lis
         length-drop sent (printed text),
       )
 
-  due : Due (printed text) sent out used
+  due : Due (printed text) sent out (length out)
   due = record {
-    within = L.within;
+    within = omega arith;
     fits = omega (arith, counted);
-    is = L.is ∙ sym (ap (take used) parts ∙ take_at (flat line done) (flat line left) used long);
+    is =
+        take_all (length out) out (omega arith) ∙ L.is
+        ∙ sym (ap (take (length out)) parts ∙ take_at (flat line done) (flat line left) (length out) long);
   }
 
-  sent_on : {sent' : ℕ} → sent' ≡ sent + used → Unsent text sent' left
+  sent_on : {sent' : ℕ} → sent' ≡ sent + length out → Unsent text sent' left
   sent_on {sent'} u = record {
     within = omega (arith, counted);
     is =
-        ap (λ (k : ℕ). drop k (printed text)) u ∙ sym (drop-drop used sent (printed text)) ∙ ap (drop used) parts
-        ∙ drop_at (flat line done) (flat line left) used long;
+        ap (λ (k : ℕ). drop k (printed text)) u ∙ sym (drop-drop (length out) sent (printed text))
+        ∙ ap (drop (length out)) parts ∙ drop_at (flat line done) (flat line left) (length out) long;
   }
 
 -- ---- the loop
 
 -- the page in the buffer is the next of what is left to be sent
 pub record Paging (text : List ℕ) (P : Problem) (n : ℕ) (t path : List ℤ) (profile out : List ℕ) (sent : ℕ)
-    (page : Page) : Type 0 where
+    (page : Option State) : Type 0 where
   pub left : List (List ℕ)
   pub unsent : Unsent text sent left
   pub filled : Filled P n left t path profile out page
 
-pub first_page : (text : List ℕ) {ws : List ℤ} {n : ℕ} {t path : List ℤ} {profile out : List ℕ} {sent : ℕ} {r : Page}
-    → opened text ≡ accepted ws → sent ≡ 0
+pub first_page : (text : List ℕ) {ws : List ℤ} {n : ℕ} {t path : List ℤ} {profile out : List ℕ} {sent : ℕ}
+    {r : Option State} → opened text ≡ accepted ws → sent ≡ 0
     → Filled (meant (cut ws)) n (listed (meant (cut ws)) (pick (meant (cut ws)))) t path profile out r
     → Paging text (meant (cut ws)) n t path profile out sent r
 first_page text e z f = record { left = _; unsent = none_sent text e z; filled = f }
 
-module _ {text : List ℕ} {P : Problem} {n : ℕ} {t path : List ℤ} {profile out : List ℕ} {sent : ℕ} {r : Page}
+module _ {text : List ℕ} {P : Problem} {n : ℕ} {t path : List ℤ} {profile out : List ℕ} {sent : ℕ} {r : Option State}
     (S : Paging text P n t path profile out sent r) where
-  page_as : {page : Page} → r ≡ page → FilledAs P n S.left t path profile out page
-  page_as e = subst (λ (x : Page). FilledAs P n S.left t path profile out x) e S.filled.page
+  page_as : {page : Option State} → r ≡ page → FilledAs P n S.left t path profile out page
+  page_as e = subst (λ (x : Option State). FilledAs P n S.left t path profile out x) e S.filled.page
 
   -- the last page
-  module _ {used : ℕ} (e : r ≡ All used) where
-    pub last_due : Due (printed text) sent out used
+  module _ (e : r ≡ None) where
+    pub last_short : length out ≤ 65536
+    last_short = (page_as e).within
+
+    pub last_due : Due (printed text) sent out (length out)
     last_due = due text S.left [] out S.unsent (sym (append-nil S.left)) (page_as e)
 
-    pub last_sent : sent + used ≡ length (printed text)
+    pub last_sent : sent + length out ≡ length (printed text)
     unfolding flat
     last_sent = omega (arith, counted text S.left [] out S.unsent (sym (append-nil S.left)) (page_as e))
 
   -- any other
-  module _ {at : State} {used : ℕ} (e : r ≡ More at used) where
-    pub more : FilledMore P n S.left t path profile out at used
+  module _ {at : State} (e : r ≡ Some at) where
+    pub more : FilledMore P n S.left t path profile out at
     more = page_as e
 
-    pub more_due : Due (printed text) sent out used
+    pub more_short : length out ≤ 65536
+    more_short = more.filling.lined.within
+
+    pub more_due : Due (printed text) sent out (length out)
     more_due = let F = more.filling in due text F.done F.left out S.unsent F.parts F.lined
 
-    pub more_some : length out ≡ 65536 → 0 < used
-    more_some h = omega (arith, more.full)
+    pub more_some : 0 < length out
+    more_some = omega (arith, more.full)
 
     pub more_coming : Coming P n more.filling.left t path profile at
     more_coming = more.filling.coming
 
-    pub more_sent : {t' path' : List ℤ} {profile' out' : List ℕ} {sent' : ℕ} {u : Option Page} {next : Page}
-        → Moved sent used sent' → TurnedAs P n more.filling.left t' path' profile' out' u → u ≡ Some next
+    pub more_sent : {t' path' : List ℤ} {profile' out' : List ℕ} {sent' : ℕ} {next : Option State}
+        → Moved sent (length out) sent' → (sent' < lost → Filled P n more.filling.left t' path' profile' out' next)
         → sent' < 9223372036854775808 → Paging text P n t' path' profile' out' sent' next
-    more_sent {t'} {path'} {profile'} {out'} {sent'} {next = next} m f q h = by m.on
+    more_sent {t'} {path'} {profile'} {out'} {sent'} {next} m f h = by m.on
       where
-        by : (sent' ≡ sent + used) ⊎ (sent' ≡ lost) → Paging text P n t' path' profile' out' sent' next
+        by : (sent' ≡ sent + length out) ⊎ (sent' ≡ lost) → Paging text P n t' path' profile' out' sent' next
         by (inl w) =
             let F = more.filling in
             record {
               left = F.left;
               unsent = sent_on text F.done F.left out S.unsent F.parts F.lined w;
-              filled = subst (λ (x : Option Page). TurnedAs P n F.left t' path' profile' out' x) q f;
+              filled = f (omega (arith, h));
             }
         by (inr w) = absurd (omega arith)
 
@@ -228,31 +228,25 @@ unread_short (Faulty line) = omega arith
 unread_short (Refused k) = omega arith
 
 -- its line is all that is printed
-module _ (text ns : List ℕ) {out out' : List ℕ} {sent used : ℕ} (e : opened text ≡ refused ns)
-    (p : Put out 0 (refusal_line ns) out' used) (short : length ns ≤ 2) (room : 65536 ≡ length out) (z : sent ≡ 0) where
+module _ (text ns : List ℕ) {out : List ℕ} {sent : ℕ} (e : opened text ≡ refused ns) (p : out ≡ refusal_line ns)
+    (short : length ns ≤ 2) (z : sent ≡ 0) where
   all_is : printed text ≡ refusal_line ns
   unfolding printed
   all_is = ap printed_of e
 
-  within : used ≤ length out
+  same : out ≡ drop sent (printed text)
+  same = p ∙ sym (ap (λ (k : ℕ). drop k (printed text)) z ∙ all_is)
+
+  pub refusal_sent : sent + length out ≡ length (printed text)
+  refusal_sent = omega (arith, z, ap length p, ap length all_is)
+
+  pub refusal_small : sent + length out < 18446744073709551616
   unfolding refusal_line
-  within = omega (arith, p.end, line_short ns)
+  refusal_small = omega (arith, z, ap length p, line_short ns)
 
-  pub refusal_sent : {sent' : ℕ} → sent' ≡ sent + used → sent' ≡ length (printed text)
-  refusal_sent u = omega (arith, p.end, ap length all_is)
-
-  pub refusal_small : sent + used < 18446744073709551616
-  refusal_small = omega (arith, within)
-
-  pub refusal_due : Due (printed text) sent out' used
-  refusal_due =
-      let l : length (refusal_line ns) ≡ used = omega (arith, p.end) in
-      record {
-        within = omega (arith, within, put_long p);
-        fits = omega (arith, ap length all_is);
-        is =
-            ap (take used) (p.is ∙ sets-eq (refusal_line ns) out 0 (omega (arith, within)))
-            ∙ take_at (refusal_line ns) _ used l
-            ∙ sym (ap (λ (k : ℕ). take used (drop k (printed text))) z ∙ ap (take used) all_is
-            ∙ take_all used (refusal_line ns) (omega arith));
-      }
+  pub refusal_due : Due (printed text) sent out (length out)
+  refusal_due = record {
+    within = omega arith;
+    fits = omega (arith, refusal_sent);
+    is = ap (take (length out)) same;
+  }

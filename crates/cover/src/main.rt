@@ -13,14 +13,14 @@ ghost use Rattle.rules.specs.Walk.{listed};
 ghost use Rattle.rules.specs.Cover.{accepted, opened, printed};
 ghost use Rattle.problem.specs.Room.{Accepted};
 ghost use Rattle.door.specs.Solved.{Parts};
-ghost use Rattle.cover.specs.Pages.{Coming, SomeComing, Filled, MovedAs, TurnedAs};
-ghost use Rattle.knuth.specs.Written.{Due, Ended};
+ghost use Rattle.cover.specs.Pages.{Coming, SomeComing, Filled};
+ghost use Rattle.knuth.specs.Written.{Due, lost, Moved, Ended};
 
 use door::{PROBLEM_WORDS, TABLE_WORDS};
 use init::{init_links, table_words};
 use open::open;
-use page::{Page, fill};
-use print::put_unread;
+use page::fill;
+use print::{Buffer, put_unread};
 use rules::{DOOR_ITEMS, Phase, Sizes, State};
 use streams::{LOST, put_page, read_text, say_unwritten};
 
@@ -31,13 +31,13 @@ fn begin(
     t: &mut [i32],
     path: &mut [i32],
     profile: &mut [u64],
-    out: &mut [u8],
-) -> Page
+    out: &mut Buffer,
+) -> Option<State>
     requires accepted { Accepted door_limits 1 (λ s. true) problem.now s }
     requires parts { Parts s t.old path.old profile.old }
     ensures { Filled (meant (cut problem.now)) (s.np + s.ns)
         (listed (meant (cut problem.now)) (pick (meant (cut problem.now))))
-        t.new path.new profile.new out.new result }
+        t.new path.new profile.new out.new.items result }
 {
     init_links(t, problem, s);
     let ready = State {
@@ -57,26 +57,25 @@ fn turn(
     profile: &mut [u64],
     n: usize,
     at: State,
-    out: &mut [u8],
-    used: usize,
+    out: &mut Buffer,
     sent: &mut u64,
-) -> Option<Page>
-    requires due { Due (printed text.now) sent.old out.old used }
-    requires used_bound { sent.old + used < 18446744073709551616 }
+) -> Option<State>
+    requires due { Due (printed text.now) sent.old out.old.items (length out.old.items) }
+    requires used_bound { sent.old + length out.old.items < 18446744073709551616 }
     requires some_coming { SomeComing n t.old path.old profile.old at }
-    ensures moved_as { MovedAs sent.old used sent.new result }
-    ensures turned_as { (P : Problem) (all : List (List ℕ)) →
+    ensures moved { Moved sent.old (length out.old.items) sent.new }
+    ensures filled { sent.new < lost → (P : Problem) (all : List (List ℕ)) →
         Coming P n all t.old path.old profile.old at →
-        TurnedAs P n all t.new path.new profile.new out.new result }
+        Filled P n all t.new path.new profile.new out.new.items result }
 {
-    put_page(rt, text, out, used, sent);
+    put_page(rt, text, out, sent);
     if *sent == LOST {
         return None;
     }
-    Some(fill(t, path, profile, n, at, out))
+    fill(t, path, profile, n, at, out)
 }
 
-// A proved loop has to end: nobody waits for as many bytes.
+// A proved loop has to end: nobody waits for as many bytes. LOST is more.
 const MOST_BYTES: u64 = 9223372036854775808;
 
 // Prints page after page.
@@ -88,39 +87,29 @@ fn show(
     t: &mut [i32],
     path: &mut [i32],
     profile: &mut [u64],
-    out: &mut [u8],
+    out: &mut Buffer,
     sent: &mut u64,
 )
     requires text_value { opened text.now ≡ accepted problem.now }
     requires accepted { Accepted door_limits 1 (λ s. true) problem.now s }
     requires parts { Parts s t.old path.old profile.old }
-    requires out_len { length out.old ≡ 65536 }
     requires sent_value { sent.old ≡ 0 }
     ensures { Ended text.now sent.new }
 {
     let n = s.np + s.ns;
-    let mut page = begin(problem, s, t, path, profile, out);
+    let mut next = begin(problem, s, t, path, profile, out);
     while *sent < MOST_BYTES {
-        match page {
-            Page::All(last) => {
-                put_page(rt, text, out, last, sent);
-                return;
-            }
-            Page::More(at, used) => {
-                let Some(next) = turn(rt, text, t, path, profile, n, at, out, used, sent) else {
-                    return;
-                };
-                page = next;
-            }
+        match next {
+            None => return put_page(rt, text, out, sent),
+            Some(at) => next = turn(rt, text, t, path, profile, n, at, out, sent),
         }
     }
 }
 
 // Prints every solution of an accepted problem.
-fn solve(rt: &HostRuntime, text: &[u8], problem: &[i32], s: Sizes, out: &mut [u8], sent: &mut u64)
+fn solve(rt: &HostRuntime, text: &[u8], problem: &[i32], s: Sizes, out: &mut Buffer, sent: &mut u64)
     requires text_value { opened text.now ≡ accepted problem.now }
     requires accepted { Accepted door_limits 1 (λ s. true) problem.now s }
-    requires out_len { length out.old ≡ 65536 }
     requires sent_value { sent.old ≡ 0 }
     ensures { Ended text.now sent.new }
 {
@@ -148,12 +137,12 @@ fn answer(rt: &HostRuntime, text: &[u8], sent: &mut u64)
     ensures { Ended text.now sent.new }
 {
     let mut words = [0i32; PROBLEM_WORDS];
-    let mut out = io::large_buffer();
+    let mut out = Buffer::new();
     match open(text, &mut words) {
         Ok((length, s)) => solve(rt, text, &words[..length], s, &mut out, sent),
         Err(unread) => {
-            let used = put_unread(&mut out, unread);
-            put_page(rt, text, &out, used, sent);
+            put_unread(&mut out, unread);
+            put_page(rt, text, &out, sent);
         }
     }
 }

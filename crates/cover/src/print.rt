@@ -4,31 +4,30 @@ ghost use Rattle.rules.specs.Words.{nat};
 ghost use Rattle.rules.specs.Text.{read_said};
 ghost use Rattle.rules.specs.Cover.{decimal, line, refusal_line};
 ghost use Rattle.words.specs.Read.{Natural};
-ghost use Rattle.cover.specs.Lines.{Put};
 
+use arrayvec::ArrayVec;
 use rules::Unread;
 use words::link_at;
 
-// Writes the bytes from `at` on, and answers the place after them.
-fn put_bytes(out: &mut [u8], at: usize, new: &[u8]) -> usize
-    requires { at + length new.now ≤ length out.old }
-    ensures { Put out.old at new.now out.new result }
+// Bytes that wait to be written.
+pub type Buffer = ArrayVec<u8, 65536>;
+
+fn put_bytes(out: &mut Buffer, new: &[u8])
+    requires { length out.old.items + length new.now ≤ 65536 }
+    ensures { out.new.items ≡ out.old.items ++ new.now }
 {
-    let end = at + new.len();
-    out[at..end].copy_from_slice(new);
-    end
+    let _ = out.try_extend_from_slice(new);
 }
 
 // A number and the byte after it.
-fn put_number(out: &mut [u8], at: usize, n: usize, after: u8) -> usize
-    requires { at + 21 ≤ length out.old }
-    ensures { Put out.old at (decimal n ++ (after ∷ [])) out.new result }
+fn put_number(out: &mut Buffer, n: usize, after: u8)
+    requires { length out.old.items + 21 ≤ 65536 }
+    ensures { out.new.items ≡ out.old.items ++ (decimal n ++ (after ∷ [])) }
 {
     let mut text = [0u8; 20];
     let count = io::decimal(n as u64, &mut text);
-    let end = put_bytes(out, at, &text[..count]);
-    out[end] = after;
-    end + 1
+    put_bytes(out, &text[..count]);
+    out.push(after);
 }
 
 // What stands after a number: a space, or LF after the last.
@@ -39,46 +38,44 @@ fn separator(next: usize, count: usize) -> u8
 }
 
 // A line with the first `count` words of a list.
-pub fn put_line(out: &mut [u8], at: usize, list: &[i32], count: usize) -> usize
+pub fn put_line(out: &mut Buffer, list: &[i32], count: usize)
     requires by_index { (k : ℕ) → k < count → Natural list.now k }
     requires count_in_bounds { count ≤ length list.now }
-    requires count_in_bounds_2 { at + 21 * count + 1 ≤ length out.old }
-    ensures { Put out.old at (line (map nat (take count list.now))) out.new result }
+    requires room { length out.old.items + 21 * count + 1 ≤ 65536 }
+    ensures { out.new.items ≡ out.old.items ++ line (map nat (take count list.now)) }
 {
     if count == 0 {
-        out[at] = b'\n';
-        return at + 1;
+        out.push(b'\n');
+        return;
     }
-    let mut next = at;
     for k in 0..count {
-        next = put_number(out, next, link_at(list, k), separator(k + 1, count));
+        put_number(out, link_at(list, k), separator(k + 1, count));
     }
-    next
 }
 
 // The line of a refusal that has a number alone.
-fn put_refused(out: &mut [u8], number: usize) -> usize
-    requires { 64 ≤ length out.old }
-    ensures { Put out.old 0 (refusal_line (number ∷ [])) out.new result }
+fn put_refused(out: &mut Buffer, number: usize)
+    requires { length out.old.items + 64 ≤ 65536 }
+    ensures { out.new.items ≡ out.old.items ++ refusal_line (number ∷ []) }
 {
-    let at = put_bytes(out, 0, b"refused ");
-    put_number(out, at, number, b'\n')
+    put_bytes(out, b"refused ");
+    put_number(out, number, b'\n');
 }
 
 // The line of a refusal that has a number and a line's number.
-fn put_faulty(out: &mut [u8], number: usize, faulty: usize) -> usize
-    requires { 64 ≤ length out.old }
-    ensures { Put out.old 0 (refusal_line (number ∷ faulty ∷ [])) out.new result }
+fn put_faulty(out: &mut Buffer, number: usize, faulty: usize)
+    requires { length out.old.items + 64 ≤ 65536 }
+    ensures { out.new.items ≡ out.old.items ++ refusal_line (number ∷ faulty ∷ []) }
 {
-    let at = put_bytes(out, 0, b"refused ");
-    let next = put_number(out, at, number, b' ');
-    put_number(out, next, faulty, b'\n')
+    put_bytes(out, b"refused ");
+    put_number(out, number, b' ');
+    put_number(out, faulty, b'\n');
 }
 
 // The line of a text that is refused.
-pub fn put_unread(out: &mut [u8], unread: Unread) -> usize
-    requires { 64 ≤ length out.old }
-    ensures { Put out.old 0 (refusal_line (read_said (Err unread))) out.new result }
+pub fn put_unread(out: &mut Buffer, unread: Unread)
+    requires { length out.old.items + 64 ≤ 65536 }
+    ensures { out.new.items ≡ out.old.items ++ refusal_line (read_said (Err unread)) }
 {
     match unread {
         Unread::Faulty(line) => put_faulty(out, 13, line),

@@ -55,39 +55,44 @@ pub fn read_unsigned(text: &[u8], most: u64) -> Option<u64>
     read_digits(text, most)
 }
 
-fn read_from_zero(text: &[u8], list: &mut [i32], at: usize) -> bool
-    requires { at < length list.old }
-    ensures { Stored (from_zero (unsigned 2147483647 text.now)) list.old at result list.new }
+fn read_from_zero(text: &[u8]) -> Option<i32>
+    ensures { result ≡ from_zero (unsigned 2147483647 text.now) }
 {
-    let Some(value) = read_unsigned(text, 2147483647) else {
-        return false;
-    };
-    words::put_link(list, at, value as usize);
-    true
+    let value = read_unsigned(text, 2147483647)?;
+    Some(value as i32)
 }
 
-fn read_under_zero(text: &[u8], list: &mut [i32], at: usize) -> bool
-    requires { at < length list.old }
-    ensures { Stored (under_zero (unsigned 2147483648 text.now)) list.old at result list.new }
+fn read_under_zero(text: &[u8]) -> Option<i32>
+    ensures { result ≡ under_zero (unsigned 2147483648 text.now) }
 {
-    match read_unsigned(text, 2147483648) {
-        None | Some(0) => false,
-        Some(value) => {
-            words::put_spacer(list, at, (value - 1) as usize);
-            true
-        }
+    match read_unsigned(text, 2147483648)? {
+        0 => None,
+        value => Some(-((value - 1) as i32) - 1),
     }
 }
 
-// Writes the word that the whole text says at a place of the list, and answers whether it says one: `Stored`, which other
-// callers rely on, says both.
+// The word that the whole text says.
+fn read_signed(text: &[u8]) -> Option<i32>
+    ensures { result ≡ signed text.now }
+{
+    match text {
+        [b'-', under @ ..] => read_under_zero(under),
+        _ => read_from_zero(text),
+    }
+}
+
+// Writes the word that the whole text says at a place of the list, and answers whether it says one. The bool stays for
+// the clause, which says of both that they are as `Stored` has it.
 pub fn read_word(text: &[u8], list: &mut [i32], at: usize) -> bool
     requires { at < length list.old }
     ensures { Stored (signed text.now) list.old at result list.new }
 {
-    match text {
-        [b'-', under @ ..] => read_under_zero(under, list, at),
-        _ => read_from_zero(text, list, at),
+    match read_signed(text) {
+        Some(word) => {
+            list[at] = word;
+            true
+        }
+        None => false,
     }
 }
 

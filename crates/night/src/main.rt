@@ -2,8 +2,6 @@
 // colour the runtime loaded there: runs may share a minute of a machine where they want the same runtime.
 #![tactic(auto)]
 
-ghost use Rattle.std.specs.Prelude.{length, ◌≡◌};
-
 use rules::{NextAnswer, State};
 use std::fmt;
 

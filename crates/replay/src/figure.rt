@@ -1,6 +1,6 @@
 // What stands in a lent list: signed words, or counts. They are written by `decimal`, whose texts read back as the number,
 // which no `Display` promises.
-ghost use Rattle.std.specs.Prelude.{◌≡◌, ◌≤◌, length};
+ghost use Rattle.std.specs.Prelude.{◌≤◌, length};
 
 pub trait Figure: Copy + Default + Drop {
     // What the whole text says.

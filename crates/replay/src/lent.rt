@@ -1,6 +1,4 @@
 // What is lent to the calls, and what sets it: the lines `p`, `l`, `s` and `w`.
-ghost use Rattle.std.specs.Prelude.{length};
-
 use crate::figure::Figure;
 use crate::line::Operands;
 use arrayvec::ArrayVec;
@@ -88,7 +86,7 @@ impl Lent {
     // `s P D U`
     pub fn set_state(&mut self, mut operands: Operands<'_>) -> Option<()> {
         let phase = phase_of(operands.number(2)?);
-        let depth = operands.number(4294967295)? as u32;
+        let depth = operands.number(u64::from(u32::MAX))? as u32;
         let updates = operands.number(u64::MAX)?;
         self.state = State {
             phase,

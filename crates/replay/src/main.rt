@@ -17,15 +17,13 @@ use std::io::Read;
 // Runs every line, up to the first that is no command.
 fn run(input: &[u8], out: &mut Output<'_>) {
     let mut lent = Lent::new();
-    let mut number = 0u64;
-    for line in input.split_inclusive(|byte| *byte == b'\n') {
-        number = number.saturating_add(1);
+    for (k, line) in input.split_inclusive(|byte| *byte == b'\n').enumerate() {
         let ran = match line {
             [command @ .., b'\n'] => commands::run(command, &mut lent, out),
             _ => None,
         };
         if ran.is_none() {
-            out.put_bad(number);
+            out.put_bad((k as u64).saturating_add(1));
             return;
         }
     }

@@ -40,6 +40,9 @@ module _ {A : Type 0} (p : A → Bool) where
       by true e f = let k : suc (length s) ≤ 0 = rw e at h in absurd (omega arith)
       by false e f = let k : suc (length s) ≤ 1 + part_len s = rw e at h in rw e (ap (parted false x) (f (omega arith)))
 
+pub cut_len : (p : ℕ → Bool) (s : List ℕ) {n : ℕ} → n ≡ prefix_len p s → n ≡ length (take n s)
+cut_len p s e = e ∙ sym (ap (λ n. length (take n s)) e ∙ length-prefix_len p s)
+
 lt_or_le : (a b : ℕ) → (a < b) ⊎ (b ≤ a)
 lt_or_le a b = by (ltb a b) refl
   where

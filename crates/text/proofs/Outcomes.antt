@@ -1,6 +1,8 @@
 -- The words written as a whole, and what the reader answers. Assumes nothing.
-use Rattle.std.proofs.Common.{◌≡◌, ℕ, zero, suc, ◌+◌, ◌≤◌, ◌<◌, Bool, List, [], ◌∷◌, ◌++◌, ℤ, pos, leb, length, drop, set, Option, None, Some, Result, Ok, Err, refl, sym, ap, ◌∙◌, arith}
+use Rattle.std.proofs.Common.{◌≡◌, ℕ, zero, suc, ◌+◌, ◌-◌, ◌≤◌, ◌<◌, Bool, List, [], ◌∷◌, ◌++◌, ℤ, pos, leb, length, take, drop, set, Option, None, Some, Result, Ok, Err, refl, sym, ap, ◌∙◌, arith}
 use borrow.Author.Tests.{le-leb, lt-leb}
+use borrow.Rule.Slice.PartMut.{put_mid}
+use lib.ListN.{length-set}
 use lib.Seq.{sets, sets-eq}
 use Rattle.rules.specs.declared.Unread.{Unread}
 use Rattle.rules.specs.declared.Unread.TheVariants.{Faulty, Refused}
@@ -12,12 +14,18 @@ use Rattle.text.specs.Pieces.{lines_left}
 use Rattle.text.specs.Names.{known}
 use Rattle.text.specs.Read.{bad_left, stated_left, options_words, ItemsFound, OptionsCounted, words_under, under, heads}
 use Rattle.text.proofs.Entering.{numbered}
+use Rattle.text.proofs.Putting.{put_rest}
 
 -- ---- the words written
 
 over_is : (all w : List ℤ) → length all ≤ length w → sets w 0 all ≡ over all w
 over_is all w h = sets-eq all w 0 (omega arith) ∙ (let e : 0 + length all ≡ length all = omega arith in
     ap (λ (k : ℕ). all ++ drop k w) e)
+
+pub long3 : (w : List ℤ) (x y z : ℤ) {w₁ w₂ w₃ : List ℤ} → w₁ ≡ set w 0 x → w₂ ≡ set w₁ 1 y → w₃ ≡ set w₂ 2 z
+    → length w₃ ≡ length w
+long3 w x y z {w₁} {w₂} p q r =
+    ap length r ∙ length-set w₂ 2 z ∙ ap length q ∙ length-set w₁ 1 y ∙ ap length p ∙ length-set w 0 x
 
 module _ (n : Names) (l : Lines) {a b m : ℕ} (e : a ≡ n.primaries) (f : b ≡ length (tokens n.secondary.now))
     (g : length (stated_left l) ≡ m) where
@@ -30,10 +38,12 @@ module _ (n : Names) (l : Lines) {a b m : ℕ} (e : a ≡ n.primaries) (f : b �
 
   pub heads_are : (w : List ℤ) {w₁ w₂ w₃ w₄ : List ℤ} → 3 + length (options_words I (lines_left l.rest)) ≤ length w
       → w₁ ≡ set w 0 (pos a) → w₂ ≡ set w₁ 1 (pos b) → w₃ ≡ set w₂ 2 (pos m)
-      → w₄ ≡ sets w₃ 3 (options_words I (lines_left l.rest)) → w₄ ≡ heads I l w
-  heads_are w h p q r s =
+      → w₄ ≡ sets (take (length w₃ - 3) (drop 3 w₃)) 0 (options_words I (lines_left l.rest))
+      → put_mid 3 (length w₃ - 3) w₃ w₄ ≡ heads I l w
+  heads_are w {w₃ = w₃} h p q r s =
       let all : List ℤ = pos a ∷ pos b ∷ pos m ∷ options_words I (lines_left l.rest) in
-      s ∙ ap (λ (x : List ℤ). sets x 3 (options_words I (lines_left l.rest)))
+      put_rest w₃ (options_words I (lines_left l.rest)) 3 (omega (arith, long3 w _ _ _ p q r)) s
+      ∙ ap (λ (x : List ℤ). sets x 3 (options_words I (lines_left l.rest)))
       (r ∙ ap (λ (x : List ℤ). set x 2 (pos m)) (q ∙ ap (λ (x : List ℤ). set x 1 (pos b)) p))
       ∙ over_is all w (omega arith) ∙ ap (λ (x : List ℤ). over x w) text_is
 

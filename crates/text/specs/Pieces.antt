@@ -1,5 +1,6 @@
--- The pieces of a text: what a byte is not that stands in one, and the lines that are left.
+-- The pieces of a text: what a byte is not that stands in one, closures that test it, and the lines that are left.
 use Rattle.std.specs.Prelude.{Bool, not, List, [], ◌∷◌, ◌≡◌, ◌+◌, ℕ, eqb, length, Option, None, Some}
+use Rattle.std.specs.Fn.{Mut, CalledAt}
 use denote.Ref.{Bor}
 use Rattle.rules.specs.Text.{white, lines}
 
@@ -11,6 +12,10 @@ no_lf b = not (eqb b 10)
 
 abbrev pub no_colon : ℕ → Bool
 no_colon b = not (eqb b 58)
+
+-- each call of the closure f tells what p does of a byte, and leaves f as it was
+abbrev pub Tests : {F : Type 0} → Mut F (Bor (Bor ℕ) × Unit {0}) Bool → F → (ℕ → Bool) → Type 0
+Tests {F} g f p = (b : Bor ℕ) (r : Bool) (f' : F) → CalledAt g f b r f' → (f' ≡ f) × (r ≡ p b.now)
 
 -- the lines of what is left of a text, nothing after the last of them
 abbrev pub lines_left : Option (Bor (List ℕ)) → List (List ℕ)

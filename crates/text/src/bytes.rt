@@ -1,12 +1,12 @@
 // Tests of bytes, and of what they make up.
-ghost use Rattle.std.specs.Prelude.{◌≡◌};
+ghost use Rattle.std.specs.Prelude.{Bool, ℕ, ◌≡◌};
 ghost use Rattle.std.specs.List.{prefix_len};
 ghost use Rattle.rules.specs.Lists.{each};
 ghost use Rattle.rules.specs.Text.{allowed, is_bar, white, name_byte, name_of, sharp};
-ghost use Rattle.text.specs.Pieces.{no_colon, no_lf, no_white};
+ghost use Rattle.text.specs.Pieces.{Tests, no_colon};
 
 #[tactic(auto, unfolding(rules::specs::Text::white))]
-fn is_white(b: u8) -> bool
+pub fn is_white(b: u8) -> bool
     ensures { result ≡ white b }
 {
     matches!(b, b' ' | b'\t' | b'\r')
@@ -26,32 +26,19 @@ fn is_name_byte(b: u8) -> bool
     matches!(b, b'0'..=b'9' | b'A'..=b'Z' | b'a'..=b'z' | b'#')
 }
 
-// How many white bytes a line begins with.
-pub fn white_len(line: &[u8]) -> usize
-    ensures { result ≡ prefix_len white line.now }
+// How many bytes of a text pass a test before the first that fails it.
+pub fn prefix_len<F: FnMut(&&u8) -> bool>(text: &[u8], test: F) -> usize
+    requires { (f : F) (b : _) → F.pre f b }
+    ensures { (p : ℕ → Bool) → Tests F.FnMut test p → result ≡ prefix_len p text.now }
 {
-    line.iter().take_while(|b| is_white(**b)).count()
-}
-
-// How many bytes stand before the first white one.
-pub fn token_len(line: &[u8]) -> usize
-    ensures { result ≡ prefix_len no_white line.now }
-{
-    line.iter().take_while(|b| !is_white(**b)).count()
-}
-
-// How many bytes stand before the first LF.
-pub fn line_len(text: &[u8]) -> usize
-    ensures { result ≡ prefix_len no_lf text.now }
-{
-    text.iter().take_while(|b| **b != b'\n').count()
+    text.iter().take_while(test).count()
 }
 
 // How many bytes stand before the first colon.
 pub fn name_len(token: &[u8]) -> usize
     ensures { result ≡ prefix_len no_colon token.now }
 {
-    token.iter().take_while(|b| **b != b':').count()
+    prefix_len(token, |b| **b != b':')
 }
 
 #[tactic(auto, using(crate::proofs::Mirror::each_all))]

@@ -27,7 +27,7 @@ fn write_problem(names: &Names<'_>, lines: Lines<'_>, options: usize, words: &mu
     put_link(words, 0, names.primaries);
     put_link(words, 1, count(names.secondary));
     put_link(words, 2, options);
-    write_options(names, lines, words, 3);
+    write_options(names, lines, &mut words[3..]);
 }
 
 // The words of a text whose items are known, from the lines after theirs.

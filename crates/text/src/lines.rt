@@ -55,15 +55,15 @@ pub fn check_options(names: &Names<'_>, lines: Lines<'_>) -> Result<(usize, usiz
     Ok((options, words))
 }
 
-// Writes the words of the options at a place of the list.
-pub fn write_options(names: &Names<'_>, lines: Lines<'_>, words: &mut [i32], place: usize)
-    requires { place + length (options_words (known names.now) (lines_left lines.rest)) ≤ length words.old }
-    ensures { words.new ≡ sets words.old place (options_words (known names.now) (lines_left lines.entry.rest)) }
+// Writes the words of the options over the front of the list.
+pub fn write_options(names: &Names<'_>, lines: Lines<'_>, words: &mut [i32])
+    requires { length (options_words (known names.now) (lines_left lines.rest)) ≤ length words.old }
+    ensures { words.new ≡ sets words.old 0 (options_words (known names.now) (lines_left lines.entry.rest)) }
 {
-    let mut next = place;
+    let mut next = 0;
     for (_, line) in lines {
         if !is_passed(line) {
-            next = write_option(names, line, words, next);
+            next += write_option(names, line, &mut words[next..]);
         }
     }
 }

@@ -5,8 +5,8 @@ ghost use Rattle.rules.specs.Text.{tokens};
 use crate::bytes::{has_sharp, is_bar};
 use crate::pieces::Tokens;
 
-// The names of an items line: so many stand before its `|`, and others after it. Primary names with `#` are numbered first
-// or last, by the flag.
+// The names of an items line: so many stand before its `|`, and others after it. Primary names with `#` are numbered
+// first or last, by the flag.
 #[derive(Clone, Copy)]
 pub struct Names<'a> {
     pub items: &'a [u8],
@@ -44,7 +44,8 @@ impl<'a> Names<'a> {
         }
     }
 
-    // Where a name stands among the primary names with `#`, or among those without.
+    // Where a name stands among the primary names with `#`, or among those without. Stated here once: in `find_primary`
+    // each of its three results would have to prove anew what the chain finds.
     fn place_among(&self, with: bool, name: &[u8]) -> Option<usize>
         ensures value { result ≡ place_in name.now (filter (λ t. beq (sharp t) with) (primary_names self.now)) }
         ensures low { IfSome result (λ k. k ≤ 65536) }
@@ -80,21 +81,13 @@ impl<'a> Names<'a> {
         }
     }
 
-    // Where a name stands among the secondary names.
-    fn place_after(&self, name: &[u8]) -> Option<usize>
-        ensures value { result ≡ place_in name.now (tokens self.now.secondary.now) }
-        ensures low { IfSome result (λ k. k ≤ 65536) }
-    {
-        Tokens::of(self.secondary).position(|t| name == t)
-    }
-
     // The number of a secondary name.
     #[tactic(auto, using(crate::proofs::Naming::place_at))]
     pub fn find_secondary(&self, name: &[u8]) -> Option<usize>
         ensures value { result ≡ place self.now.primaries name.now (known self.now).secondary }
         ensures low { IfSome result (λ k. k ≤ 131072) }
     {
-        let place = self.place_after(name)?;
+        let place = Tokens::of(self.secondary).position(|t| name == t)?;
         Some(self.primaries + place)
     }
 }

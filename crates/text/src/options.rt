@@ -18,7 +18,8 @@ pub struct Entry {
     pub colour: usize,
 }
 
-// The parts of `name` or `name:c`, with the colour 0 for none.
+// The parts of `name` or `name:c`, with the colour 0 for none. The two `if`s could be one `match` on the rest as `[]`,
+// `[_, c]` or another, but it doesn't prove: the last arm has lost how long the rest is.
 fn cut(token: &[u8]) -> Option<(&[u8], usize)>
     ensures { MatchOption result (written token.now ≡ None) (CutAs token.now) }
 {
@@ -85,40 +86,40 @@ pub fn option_fault(names: &Names<'_>, line: &[u8]) -> bool
     false
 }
 
-// Writes the words of a token's entry at a place of the list, and answers the place after them.
-fn write_entry(names: &Names<'_>, token: &[u8], words: &mut [i32], place: usize) -> usize
-    requires { place + length (entry_words (entered (known names.now) token.now)) ≤ length words.old }
-    ensures value { result ≡ place + length (entry_words (entered (known names.now) token.now)) }
-    ensures words_after { words.new ≡ sets words.old place (entry_words (entered (known names.now) token.now)) }
+// Writes the words of a token's entry over the front of the list, and answers how many there are.
+fn write_entry(names: &Names<'_>, token: &[u8], words: &mut [i32]) -> usize
+    requires { length (entry_words (entered (known names.now) token.now)) ≤ length words.old }
+    ensures value { result ≡ length (entry_words (entered (known names.now) token.now)) }
+    ensures words_after { words.new ≡ sets words.old 0 (entry_words (entered (known names.now) token.now)) }
 {
     let Some(entry) = entry_of(names, token) else {
-        return place;
+        return 0;
     };
-    put_link(words, place, entry.item);
-    put_link(words, place + 1, entry.colour);
-    place + 2
+    put_link(words, 0, entry.item);
+    put_link(words, 1, entry.colour);
+    2
 }
 
-// Writes the words of an option's entries at a place of the list, and answers the place after them.
-fn write_entries(names: &Names<'_>, line: &[u8], words: &mut [i32], place: usize) -> usize
-    requires { place + length (entries_words (known names.now) (tokens line.now)) ≤ length words.old }
-    ensures value { result ≡ place + length (entries_words (known names.now) (tokens line.now)) }
-    ensures words_after { words.new ≡ sets words.old place (entries_words (known names.now) (tokens line.now)) }
+// Writes the words of an option's entries over the front of the list, and answers how many there are.
+fn write_entries(names: &Names<'_>, line: &[u8], words: &mut [i32]) -> usize
+    requires { length (entries_words (known names.now) (tokens line.now)) ≤ length words.old }
+    ensures value { result ≡ length (entries_words (known names.now) (tokens line.now)) }
+    ensures words_after { words.new ≡ sets words.old 0 (entries_words (known names.now) (tokens line.now)) }
 {
-    let mut next = place;
+    let mut next = 0;
     for token in Tokens::of(line) {
-        next = write_entry(names, token, words, next);
+        next += write_entry(names, token, &mut words[next..]);
     }
     next
 }
 
-// Writes the words of an option at a place of the list, and answers the place after them.
-pub fn write_option(names: &Names<'_>, line: &[u8], words: &mut [i32], place: usize) -> usize
+// Writes the words of an option over the front of the list, and answers how many there are.
+pub fn write_option(names: &Names<'_>, line: &[u8], words: &mut [i32]) -> usize
     requires short { length line.now ≤ 65536 }
-    requires line_in_bounds { place + length (option_words (known names.now) (tokens line.now)) ≤ length words.old }
-    ensures value { result ≡ place + length (option_words (known names.now) (tokens line.now)) }
-    ensures words_after { words.new ≡ sets words.old place (option_words (known names.now) (tokens line.now)) }
+    requires line_in_bounds { length (option_words (known names.now) (tokens line.now)) ≤ length words.old }
+    ensures value { result ≡ length (option_words (known names.now) (tokens line.now)) }
+    ensures words_after { words.new ≡ sets words.old 0 (option_words (known names.now) (tokens line.now)) }
 {
-    put_link(words, place, count(line));
-    write_entries(names, line, words, place + 1)
+    put_link(words, 0, count(line));
+    1 + write_entries(names, line, &mut words[1..])
 }

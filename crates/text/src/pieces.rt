@@ -4,7 +4,7 @@ ghost use Rattle.std.specs.Iterator.{YieldsFirstRef, at_most, item_count};
 ghost use Rattle.rules.specs.Text.{tokens, passed};
 ghost use Rattle.text.specs.Pieces.{lines_left, bytes_left, Taken};
 
-use crate::bytes::{line_len, token_len, white_len};
+use crate::bytes::{is_white, prefix_len};
 
 // The tokens of what is left of a line.
 #[derive(Clone, Copy)]
@@ -28,18 +28,18 @@ impl<'a> Iterator for Tokens<'a> {
     ghost remaining = { item_count (λ s. tokens s.rest.now) };
 
     fn next(&mut self) -> Option<&'a [u8]> {
-        let (_, line) = self.rest.split_at(white_len(self.rest));
+        let (_, line) = self.rest.split_at(prefix_len(self.rest, |b| is_white(**b)));
         if line.is_empty() {
             return None;
         }
-        let (token, rest) = line.split_at(token_len(line));
+        let (token, rest) = line.split_at(prefix_len(line, |b| !is_white(**b)));
         self.rest = rest;
         Some(token)
     }
 }
 
-// The lines of what is left of a text, each with its number, and nothing after the last. Their numbers fit, since they and
-// the bytes that are left are few.
+// The lines of what is left of a text, each with its number, and nothing after the last. Their numbers fit, since they
+// and the bytes that are left are few.
 #[derive(Clone, Copy)]
 pub struct Lines<'a> {
     rest: Option<&'a [u8]>,
@@ -70,7 +70,7 @@ impl<'a> Iterator for Lines<'a> {
     fn next(&mut self) -> Option<(usize, &'a [u8])> {
         let text = self.rest?;
         let number = self.number;
-        let end = line_len(text);
+        let end = prefix_len(text, |b| **b != b'\n');
         self.rest = if end < text.len() {
             Some(&text[end + 1..])
         } else {

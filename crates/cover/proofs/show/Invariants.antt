@@ -10,8 +10,8 @@ invariant-loop-sent l =
     (length l.t ≡ length l.initial.t)
     × (length l.path ≡ length l.initial.path)
     × (length l.profile ≡ length l.initial.profile)
-    × (length l.out ≡ 65536)
-    × (l.sent < 9223372036854775808 → Paging l.text (meant (cut l.problem)) l.n l.t l.path l.profile l.out l.sent l.page)
+    × (l.sent < 9223372036854775808
+    → Paging l.text (meant (cut l.problem)) l.n l.t l.path l.profile l.out.items l.sent l.next)
 
 abbrev pub decreases-loop-sent : goal.decreases-loop-sent
 decreases-loop-sent l = 9223372036854775808 - l.sent

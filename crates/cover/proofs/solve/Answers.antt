@@ -35,6 +35,5 @@ show-requires c = record {
     path_is = take_zeros (pos 0) 64 c.args.s.np (omega (arith, c.requires.accepted.bounds.few_items));
     profile_is = take_zeros 0 64 c.args.s.np (omega (arith, c.requires.accepted.bounds.few_items));
   };
-  out_len = c.requires.out_len;
   sent_value = c.requires.sent_value;
 }

@@ -2,4 +2,4 @@ use Rattle.cover.proofs.Printing.{Lining}
 use Rattle.cover.proofs.print.put_line.Given as goal
 
 abbrev pub invariant-loop-k : goal.invariant-loop-k
-invariant-loop-k l = Lining l.initial.out l.at l.list l.count l.out l.next l.k
+invariant-loop-k l = Lining l.initial.out.items l.list l.count l.out.items l.k

@@ -3,4 +3,4 @@ use Rattle.cover.proofs.print.put_refused.Goals as goal
 
 pub returns : goal.returns
 returns c =
-    refused_put c.args.number c.put_bytes-at.ensures c.put_number.ensures
+    refused_put c.args.out.now.items c.args.number c.put_bytes.ensures c.put_number.ensures

@@ -7,4 +7,4 @@ use Rattle.text.proofs.lines.write_options.Given as goal
 abbrev pub invariant-loop-line : goal.invariant-loop-line
 invariant-loop-line l =
     Putting (options_words (known l.names) (lines_left l.fn.lines.rest))
-    (options_words (known l.names) (lines_left l.line-iterator.rest)) l.initial.words l.words l.place l.next
+    (options_words (known l.names) (lines_left l.line-iterator.rest)) l.initial.words l.words l.next

@@ -14,7 +14,7 @@ pub loop-token-preserved : goal.loop-token-preserved
 loop-token-preserved c =
     let I = known c.args.names.now in
     put_turn c.loop-token.invariant (entry_words (entered I c.in-Some.token.now))
-    (entries_words I (tokens c.next.new.self.rest.now)) (entries_more I c.in-Some.ensures.steps)
+    (entries_words I (tokens c.next.new.self.rest.now)) (entries_more I c.in-Some.ensures.steps) c.requires
     c.write_entry-next.ensures.value c.write_entry-next.ensures.words_after
 
 pub returns : goal.returns

@@ -7,4 +7,4 @@ use Rattle.text.proofs.options.write_entries.Given as goal
 abbrev pub invariant-loop-token : goal.invariant-loop-token
 invariant-loop-token l =
     Putting (entries_words (known l.names) (tokens l.line)) (entries_words (known l.names)
-    (tokens l.token-iterator.rest.now)) l.initial.words l.words l.place l.next
+    (tokens l.token-iterator.rest.now)) l.initial.words l.words l.next
