@@ -1,4 +1,4 @@
-// Lines of decimal numbers, written into a buffer.
+// Lines of decimal numbers, written into a buffer. An `as` here loses nothing, and no `From` makes a u64 of a usize.
 ghost use Rattle.std.specs.Prelude.{cond, [], ◌∷◌, ◌++◌, map, ◌≡◌, ltb, ℕ, ◌+◌, ◌*◌, ◌<◌, ◌≤◌, length, take, Err};
 ghost use Rattle.rules.specs.Words.{nat};
 ghost use Rattle.rules.specs.Text.{read_said};

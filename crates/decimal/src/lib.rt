@@ -1,4 +1,5 @@
 // Decimal numbers as text. What is read is what the digits say, and what is written reads back as the number that it was.
+// An `as` here loses nothing, which its proof shows: no `From` makes an i32 of a u64, or a u64 of a usize.
 #![tactic(auto)]
 
 ghost use Rattle.std.specs.Prelude.{◌&&◌, ◌≡◌, ◌≤◌, ◌<◌, leb, length, Some, IfSome};
