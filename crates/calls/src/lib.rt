@@ -1,6 +1,6 @@
 // The public calls. Each is test, run, write: every refusal comes first, and a call that is accepted runs from a known
 // point. The lists stay parameters below the calls too, which are lent them one by one: behind a struct's `&mut` field
-// no word is known after a call, and the proofs of `search` didn't close.
+// no word is known after a call, as was tried in `links`.
 #![tactic(auto)]
 
 mod test;

@@ -1,6 +1,6 @@
 // Reads a problem as text from standard input, and prints the option numbers of every solution, a line for each. The
 // search's lists, and the text with the count sent, stay parameters: behind a struct's `&mut` field no word is known
-// after a call, and the proofs of `search` didn't close.
+// after a call, as was tried in `links`.
 #![tactic(auto)]
 
 mod open;
