@@ -40,7 +40,7 @@ fn lay_out(problem: &[i32], table: &mut [i32], path: &mut [i32], s: Sizes)
 {
     let words = table_words(s);
     init_links(&mut table[..words], problem, s);
-    path[..s.np].fill(0);
+    words::fill(&mut path[..s.np], 0);
 }
 
 // Set-up: table, path and profile are made ready for the problem's search.

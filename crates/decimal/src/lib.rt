@@ -1,5 +1,5 @@
 // Decimal numbers as text. What is read is what the digits say, and what is written reads back as the number that it was.
-// An `as` here loses nothing, which its proof shows: no `From` makes an i32 of a u64, or a u64 of a usize.
+// An `as` here loses nothing, which its proof shows: no `From` makes a usize of a u64, or a u64 of a usize.
 #![tactic(auto)]
 
 ghost use Rattle.std.specs.Prelude.{◌&&◌, ◌≡◌, ◌≤◌, ◌<◌, leb, length, Some, IfSome};
@@ -60,7 +60,7 @@ fn read_from_zero(text: &[u8]) -> Option<i32>
     ensures { result ≡ from_zero (unsigned 2147483647 text.now) }
 {
     let value = read_unsigned(text, 2147483647)?;
-    Some(value as i32)
+    Some(words::link(value as usize))
 }
 
 fn read_under_zero(text: &[u8]) -> Option<i32>
@@ -68,7 +68,7 @@ fn read_under_zero(text: &[u8]) -> Option<i32>
 {
     match read_unsigned(text, 2147483648)? {
         0 => None,
-        value => Some(-((value - 1) as i32) - 1),
+        value => Some(words::spacer((value - 1) as usize)),
     }
 }
 

@@ -5,9 +5,9 @@
 use rules::{NextAnswer, State};
 use std::fmt;
 
-const RUNS: i32 = 3;
+const RUNS: usize = 3;
 
-const MACHINES: i32 = 2;
+const MACHINES: usize = 2;
 
 const OPTIONS: usize = 6;
 
@@ -62,8 +62,14 @@ const PLACEMENTS: [Placement; OPTIONS] = [
 impl Placement {
     // An option of two entries: the run, uncoloured, and the machine's minute in the colour of the runtime.
     fn option(self) -> [i32; 5] {
-        let minute = RUNS + 60 * i32::from(self.machine) + i32::from(self.minute);
-        [2, i32::from(self.run), 0, minute, i32::from(self.runtime)]
+        let minute = RUNS + 60 * usize::from(self.machine) + usize::from(self.minute);
+        [
+            words::link(2),
+            words::link(usize::from(self.run)),
+            words::link(0),
+            words::link(minute),
+            words::link(usize::from(self.runtime)),
+        ]
     }
 }
 
@@ -96,7 +102,11 @@ struct Lent {
 impl Lent {
     fn new() -> Self {
         let mut problem = [0; 33];
-        problem[..3].copy_from_slice(&[RUNS, 60 * MACHINES, OPTIONS as i32]);
+        problem[..3].copy_from_slice(&[
+            words::link(RUNS),
+            words::link(60 * MACHINES),
+            words::link(OPTIONS),
+        ]);
         for (option, placement) in problem[3..].chunks_exact_mut(5).zip(&PLACEMENTS) {
             option.copy_from_slice(&placement.option());
         }
@@ -135,10 +145,7 @@ impl Lent {
     // A solution's placements, in the order in which they were chosen.
     fn show(&self, rt: &HostRuntime, solution: State) {
         for option in calls::report(&self.found, solution) {
-            let Some(placement) = usize::try_from(*option)
-                .ok()
-                .and_then(|o| PLACEMENTS.get(o))
-            else {
+            let Some(placement) = words::number(*option).and_then(|o| PLACEMENTS.get(o)) else {
                 continue;
             };
             let _ = rt.println(placement);

@@ -75,11 +75,11 @@ impl Lent {
 
     // `l T S P F O`
     pub fn set_lengths(&mut self, mut operands: Operands<'_>) -> Option<()> {
-        lend(&mut self.table, 7, &mut operands)?;
-        lend(&mut self.spare, 7, &mut operands)?;
-        lend(&mut self.path, 7, &mut operands)?;
+        lend(&mut self.table, words::link(7), &mut operands)?;
+        lend(&mut self.spare, words::link(7), &mut operands)?;
+        lend(&mut self.path, words::link(7), &mut operands)?;
         lend(&mut self.profile, 7, &mut operands)?;
-        lend(&mut self.found, 7, &mut operands)?;
+        lend(&mut self.found, words::link(7), &mut operands)?;
         operands.end()
     }
 

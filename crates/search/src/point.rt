@@ -86,7 +86,7 @@ fn zeros_from(path: &[i32], d: usize) -> bool
     requires { d ≤ length path.now }
     ensures { result ≡ each (λ w. same w (pos 0)) (drop d path.now) }
 {
-    path[d..].iter().all(|w| *w == 0)
+    words::are_zeros(&path[d..])
 }
 
 fn depth_fits(phase: Phase, np: usize, d: usize) -> bool
@@ -138,7 +138,7 @@ pub fn test_point(t: &[i32], spare: &mut [i32], path: &[i32], n: usize, st: Stat
     ensures spare_unchanged { spare.new ≡ spare.old }
 {
     let Reach { fits, level } = path_point(spare, path, n, st);
-    let same = t == spare;
+    let same = words::are_same(t, spare);
     undo(spare, path, n, level);
     fits && same
 }

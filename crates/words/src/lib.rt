@@ -1,11 +1,12 @@
 // The functions that touch a signed word. The code above this crate sees natural numbers and tests.
 #![tactic(auto)]
 
-ghost use Rattle.std.specs.Prelude.{◌≡◌, not, ◌+◌, ◌<◌, ◌≤◌, T, pos, negsuc, length, set};
+ghost use Rattle.std.specs.Prelude.{◌≡◌, not, ◌+◌, ◌<◌, ◌≤◌, T, Some, pos, negsuc, length, replicate, set};
 ghost use Rattle.std.proofs.Math.IntN.{suc_ℤ};
 ghost use Rattle.std.proofs.lemmas.List.Edits.{sets};
 ghost use Rattle.std.specs.Int.Signed.{le_z, lt_z, non_neg};
-ghost use Rattle.rules.specs.Words.{word, below, same, signed, word_bytes};
+ghost use Rattle.rules.specs.Lists.{each, when};
+ghost use Rattle.rules.specs.Words.{word, nat, below, same, same_words, signed, word_bytes};
 ghost use Rattle.rules.specs.Links.{fall};
 ghost use Rattle.rules.specs.Calls.{capped};
 ghost use Rattle.words.specs.Read.{Natural, Link, Above, CanRise, Spacer, quad_at};
@@ -63,6 +64,21 @@ pub fn is_link(t: &[i32], a: usize, x: usize) -> bool
     t[a] == x as i32
 }
 
+// Whether all words are zero.
+pub fn are_zeros(t: &[i32]) -> bool
+    ensures { result ≡ each (λ w. same w (pos 0)) t.now }
+{
+    t.iter().all(|w| *w == 0)
+}
+
+// Whether two lists are the same, word for word.
+#[tactic(auto, using(crate::proofs::Tests::words_same))]
+pub fn are_same(s: &[i32], t: &[i32]) -> bool
+    ensures { result ≡ same_words s.now t.now }
+{
+    s == t
+}
+
 // ---- numbers
 
 // No cast here loses a bit, which its proof shows; `try_from` would be no plainer, since it would bring a failure that
@@ -87,13 +103,36 @@ pub fn option_at(t: &[i32], a: usize) -> usize
     (-(t[a] + 1)) as usize
 }
 
+// The number of the word w, unless w is negative.
+pub fn number(w: i32) -> Option<usize>
+    ensures { result ≡ when (non_neg w) (Some (nat w)) }
+{
+    usize::try_from(w).ok()
+}
+
+// The word of the number x.
+pub fn link(x: usize) -> i32
+    requires { x < 2147483648 }
+    ensures { result ≡ pos x }
+{
+    x as i32
+}
+
+// The word -(m + 1).
+pub fn spacer(m: usize) -> i32
+    requires { m < 2147483648 }
+    ensures { result ≡ negsuc m }
+{
+    -(m as i32) - 1
+}
+
 // Writes the number x at a.
 pub fn put_link(t: &mut [i32], a: usize, x: usize)
     requires a_in_bounds { a < length t.old }
     requires x_bound { x < 2147483648 }
     ensures { t.new ≡ set t.old a (pos x) }
 {
-    t[a] = x as i32;
+    t[a] = link(x);
 }
 
 // Writes -(m + 1) at a.
@@ -102,7 +141,7 @@ pub fn put_spacer(t: &mut [i32], a: usize, m: usize)
     requires m_bound { m < 2147483648 }
     ensures { t.new ≡ set t.old a (negsuc m) }
 {
-    t[a] = -(m as i32) - 1;
+    t[a] = spacer(m);
 }
 
 // Writes -1 at a.
@@ -111,6 +150,14 @@ pub fn mark(t: &mut [i32], a: usize)
     ensures { t.new ≡ set t.old a (negsuc 0) }
 {
     t[a] = -1;
+}
+
+// Every word becomes the number x.
+pub fn fill(t: &mut [i32], x: usize)
+    requires { x < 2147483648 }
+    ensures { t.new ≡ replicate (length t.old) (pos x) }
+{
+    t.fill(link(x));
 }
 
 // One less at a.

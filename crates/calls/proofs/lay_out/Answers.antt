@@ -4,7 +4,6 @@ use Rattle.rules.specs.Lists.{over}
 use mathlib.Core.Path.{sym, ap, ◌∙◌}
 use Prim.Native.Nat.{◌≤◌}
 use native.Mathlib.Omega.{arith}
-use borrow.Author.Rules.{rules}
 use lib.ListN.{length}
 use lib.Seq.{length-take-le}
 use Rattle.search.specs.Meant.{top_words}
@@ -22,6 +21,5 @@ returns-clause-table_after c =
 
 pub returns-clause-path_after : goal.returns-clause-path_after
 returns-clause-path_after c =
-    over_filled (pos 0) c.args.path.now c.fill.new.self (c.fill.ensures.after
-    (λ y e. search rules)) c.requires.path_room
+    over_filled (pos 0) c.args.path.now c.fill.new.t c.fill.ensures c.requires.path_room
     ∙ ap (λ (x : List ℤ). over x c.args.path.now) (sym (top_words c.args.s.np))
