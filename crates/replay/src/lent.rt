@@ -1,4 +1,7 @@
 // What is lent to the calls, and what sets it: the lines `p`, `l`, `s` and `w`.
+ghost use Rattle.std.specs.Prelude.{◌≡◌, ◌<◌, length, replicate, OnSome};
+ghost use Rattle.replay.specs.Lent.{Sevens};
+
 use crate::figure::Figure;
 use crate::line::Operands;
 use arrayvec::ArrayVec;
@@ -16,15 +19,24 @@ pub struct Lent {
     pub state: State,
 }
 
+// How many sevens go to a list at a time.
+const AT_ONCE: usize = 256;
+
 // Lends a list of the length that a line says, full of sevens.
 fn lend<T: Figure, const MOST: usize>(
     list: &mut ArrayVec<T, MOST>,
-    seven: T,
+    sevens: &[T],
     operands: &mut Operands<'_>,
-) -> Option<()> {
-    *list = ArrayVec::new();
-    for _ in 0..operands.number(MOST as u64)? {
-        list.try_push(seven).ok()?;
+) -> Option<()>
+    requires { 0 < length sevens.now }
+    ensures { (seven : T) → sevens.now ≡ replicate (length sevens.now) seven →
+        OnSome result (list.new.items ≡ replicate (length list.new.items) seven) }
+{
+    let length = operands.number(MOST as u64)? as usize;
+    list.clear();
+    while list.len() < length {
+        let more = (length - list.len()).min(sevens.len());
+        list.try_extend_from_slice(&sevens[..more]).ok()?;
     }
     Some(())
 }
@@ -74,12 +86,17 @@ impl Lent {
     }
 
     // `l T S P F O`
-    pub fn set_lengths(&mut self, mut operands: Operands<'_>) -> Option<()> {
-        lend(&mut self.table, words::link(7), &mut operands)?;
-        lend(&mut self.spare, words::link(7), &mut operands)?;
-        lend(&mut self.path, words::link(7), &mut operands)?;
-        lend(&mut self.profile, 7, &mut operands)?;
-        lend(&mut self.found, words::link(7), &mut operands)?;
+    pub fn set_lengths(&mut self, mut operands: Operands<'_>) -> Option<()>
+        ensures { OnSome result (Sevens self.new.table.items self.new.spare.items self.new.path.items
+            self.new.profile.items self.new.found.items) }
+    {
+        let sevens = [words::link(7); AT_ONCE];
+        let counts = [7; AT_ONCE];
+        lend(&mut self.table, &sevens, &mut operands)?;
+        lend(&mut self.spare, &sevens, &mut operands)?;
+        lend(&mut self.path, &sevens, &mut operands)?;
+        lend(&mut self.profile, &counts, &mut operands)?;
+        lend(&mut self.found, &sevens, &mut operands)?;
         operands.end()
     }
 

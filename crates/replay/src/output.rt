@@ -1,6 +1,12 @@
 // What is printed, gathered in a buffer.
+ghost use Rattle.std.specs.Prelude.{◌≡◌, ◌≤◌, [], length};
+ghost use Rattle.replay.specs.Output.{Ends};
+
 use crate::figure::Figure;
 use arrayvec::ArrayVec;
+
+// How many figures go side by side.
+const TOGETHER: usize = 32;
 
 #[derive(Drop)]
 pub struct Output<'a> {
@@ -17,12 +23,18 @@ impl<'a> Output<'a> {
     }
 
     // Writes what waits.
-    pub fn flush(&mut self) {
+    pub fn flush(&mut self)
+        ensures { self.new.waiting.items ≡ [] }
+    {
         let _ = self.rt.write_all(self.waiting.as_slice());
         self.waiting.clear();
     }
 
-    pub fn put(&mut self, text: &[u8]) {
+    // Lets a text wait behind what does, which is written first where both do not fit.
+    pub fn put(&mut self, text: &[u8])
+        requires { length text.now ≤ 65536 }
+        ensures { Ends text.now self.new.waiting.items }
+    {
         if self.waiting.try_extend_from_slice(text).is_err() {
             self.flush();
             let _ = self.waiting.try_extend_from_slice(text);
@@ -37,14 +49,22 @@ impl<'a> Output<'a> {
         self.put(&text[..=end]);
     }
 
-    // A line with the figures of a list.
+    // A line with the figures of a list. Some figures at a time go side by side before they wait: each of them alone
+    // would cost a copy more.
     pub fn put_list<T: Figure>(&mut self, list: &[T]) {
         let Some((last, others)) = list.split_last() else {
             self.put(b"\n");
             return;
         };
-        for figure in others {
-            self.put_figure(*figure, b' ');
+        let mut text = [0u8; 22 * TOGETHER];
+        for part in others.chunks(TOGETHER) {
+            let mut used = 0;
+            for figure in part {
+                used += figure.write(&mut text[used..]);
+                text[used] = b' ';
+                used += 1;
+            }
+            self.put(&text[..used]);
         }
         self.put_figure(*last, b'\n');
     }
