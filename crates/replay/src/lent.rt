@@ -90,7 +90,8 @@ impl Lent {
         ensures { OnSome result (Sevens self.new.table.items self.new.spare.items self.new.path.items
             self.new.profile.items self.new.found.items) }
     {
-        let sevens = [words::link(7); AT_ONCE];
+        let mut sevens = [0; AT_ONCE];
+        words::fill(&mut sevens, 7);
         let counts = [7; AT_ONCE];
         lend(&mut self.table, &sevens, &mut operands)?;
         lend(&mut self.spare, &sevens, &mut operands)?;

@@ -1,4 +1,4 @@
-use Rattle.std.proofs.Common.{◌≡◌, length, replicate, ℕ, ◌-◌}
+use Rattle.std.proofs.Common.{◌≡◌, length, replicate, ◌-◌}
 use Rattle.replay.proofs.lent.lend.Given as goal
 
 abbrev pub invariant-loop-list : goal.invariant-loop-list
