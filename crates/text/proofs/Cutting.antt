@@ -1,17 +1,18 @@
 -- Where the pieces of a text end. Assumes nothing.
-use Rattle.std.proofs.Common.{◌≡◌, ℕ, zero, suc, ◌+◌, ◌-◌, ◌≤◌, ◌<◌, Bool, true, false, not, cond, List, [], ◌∷◌, eqb, length, get_or, take, drop, Option, None, Some, refl, sym, ap, ◌∙◌, arith, add-one, drop-cons, length-drop}
+use Rattle.std.proofs.Common.{◌≡◌, ℕ, zero, suc, ◌+◌, ◌-◌, ◌≤◌, ◌<◌, Bool, true, false, not, cond, List, [], ◌∷◌, eqb, length, take, drop, Option, None, Some, refl, sym, ap, ◌∙◌, arith, length-drop}
 use mathlib.Core.Logic.{◌⊎◌, inl, inr}
-use borrow.Author.Tests.{ltb-true, ltb-false, eqb-true, eqb-false}
+use borrow.Author.Tests.{ltb-true, ltb-false}
 use lib.Dec.{ltb}
 use lib.ListN.{drop_of_length-le}
 use lib.Seq.{take_all}
-use Rattle.std.specs.List.{prefix_len}
-use Rattle.std.proofs.lemmas.List.Sums.{prefix_len_stops, prefix_len-le-length}
+use Rattle.std.specs.List.{prefix_len, find}
+use Rattle.std.proofs.lemmas.List.{drop-drop}
+use Rattle.std.proofs.lemmas.List.Sums.{prefix_len-le-length}
 use Rattle.std.proofs.lemmas.List.Splits.{slice_split_first}
 use Rattle.rules.specs.Lists.{keep}
 use denote.Ref.{Bor}
 use Rattle.std.proofs.lemmas.List.Folds.{length-prefix_len}
-use Rattle.rules.specs.Text.{parted, split, filled, tokens, lines, white, first_part, name_of}
+use Rattle.rules.specs.Text.{parted, split, filled, tokens, passed, lines, white, first_part, name_of}
 use Rattle.laws.specs.Lists.{cannot}
 use Rattle.text.specs.Pieces.{no_white, no_lf, no_colon, lines_left, bytes_left}
 use Rattle.text.proofs.Mirror.{split_slice}
@@ -92,49 +93,56 @@ unfolding keep
 keep_last [] h = absurd (omega arith)
 keep_last (b ∷ t) h = refl
 
+-- a token begins here: what is left begins after the white byte behind it
 token_by : (s : List ℕ) → 0 < prefix_len no_white s → (prefix_len no_white s < length s) ⊎
     (length s ≤ prefix_len no_white s)
-    → tokens s ≡ take (prefix_len no_white s) s ∷ tokens (drop (prefix_len no_white s) s)
-unfolding tokens
+    → tokens s ≡ take (prefix_len no_white s) s ∷ tokens (drop (prefix_len no_white s + 1) s)
+unfolding tokens split keep
 token_by s h (inl k) =
     let n : ℕ = prefix_len no_white s in
-    let w : white (get_or s n 0) ≡ true = white_stop s k in
     ap (keep filled) (split_more white s 0 k) ∙ keep_first (take n s) (split white (drop (n + 1) s))
     (take_some s n h (omega arith))
-    ∙ ap (λ (l : List (List ℕ)). take n s ∷ l)
-    (sym (ap tokens (next_is s n k) ∙ white_first (get_or s n 0) (drop (n + 1) s) w))
   where
-    white_stop : (s : List ℕ) → prefix_len no_white s < length s → white (get_or s (prefix_len no_white s) 0) ≡ true
-    white_stop s k = not_not (white (get_or s (prefix_len no_white s) 0)) (prefix_len_stops no_white s 0 k)
-      where
-        not_not : (b : Bool) → not b ≡ false → b ≡ true
-        not_not true e = refl
-        not_not false e = sym e
-
-    next_is : (s : List ℕ) (n : ℕ) → n < length s → drop n s ≡ get_or s n 0 ∷ drop (n + 1) s
-    next_is s n h = rw (add-one n) (drop-cons s n 0 h)
-
     take_some : (s : List ℕ) (n : ℕ) → 0 < n → n ≤ length s → 0 < length (take n s)
     take_some [] n h k = absurd (omega arith)
     take_some (b ∷ s) zero h k = absurd (omega arith)
     take_some (b ∷ s) (suc n) h k = omega arith
 token_by s h (inr k) =
     ap (keep filled) (split_last white s k) ∙ keep_last s (let l = prefix_len-le-length no_white s in omega arith)
-    ∙ sym (ap (λ (l : List ℕ). l ∷ tokens (drop (prefix_len no_white s) s)) (take_all (prefix_len no_white s) s k)
-    ∙ ap (λ (l : List (List ℕ)). s ∷ l) (ap tokens (drop_of_length-le s k) ∙ no_tokens))
+    ∙ sym (ap (λ (l : List ℕ). l ∷ tokens (drop (prefix_len no_white s + 1) s)) (take_all (prefix_len no_white s) s k)
+    ∙ ap (λ (l : List (List ℕ)). s ∷ l) (ap tokens (drop_of_length-le s (omega arith)) ∙ no_tokens))
 
-pub next_none : (s l : List ℕ) → l ≡ drop (prefix_len white s) s → eqb (length l) 0 ≡ true → tokens s ≡ []
-next_none s [] e n = sym (tokens_skip s) ∙ ap tokens (sym e) ∙ no_tokens
-next_none s (b ∷ l) e n = let k = eqb-true (suc (length l)) 0 n in absurd (omega arith)
+pub none_left : (s : List ℕ) → length s < 1 → s ≡ drop 1 s
+none_left [] h = refl
+none_left (b ∷ s) h = absurd (omega arith)
 
-pub next_some : (s l : List ℕ) → l ≡ drop (prefix_len white s) s → eqb (length l) 0 ≡ false
-    → tokens s ≡ take (prefix_len no_white l) l ∷ tokens (drop (prefix_len no_white l) l)
-next_some s [] e n = absurd (eqb-false 0 0 n refl)
-next_some s (b ∷ l) e n = sym (tokens_skip s) ∙ ap tokens (sym e)
-    ∙ token_by (b ∷ l) (some (first_not s b l (sym e))) (lt_or_le (prefix_len no_white (b ∷ l)) (length (b ∷ l)))
-  where
-    some : white b ≡ false → 0 < prefix_len no_white (b ∷ l)
-    some u = rw u (omega arith)
+module _ (s l : List ℕ) (e : l ≡ drop (prefix_len white s) s) where
+  pub next_none : length l ≡ 0 → tokens s ≡ []
+  next_none h = sym (tokens_skip s) ∙ ap tokens (sym e ∙ none l h) ∙ no_tokens
+    where
+      none : (l : List ℕ) → length l ≡ 0 → l ≡ []
+      none [] h = refl
+      none (b ∷ l) h = absurd (omega arith)
+
+  module _ {b : ℕ} {more : List ℕ} (f : l ≡ b ∷ more) {n : ℕ} (u : n ≡ prefix_len no_white more) where
+    token_len : prefix_len no_white (b ∷ more) ≡ 1 + n
+    token_len = rw (first_not s b more (sym e ∙ f)) (omega (arith, u))
+
+    pub token_fits : 1 + n ≤ length l
+    token_fits = omega (arith, u, ap length f, prefix_len-le-length no_white more)
+
+    pub next_some : (token rest left : List ℕ) → token ≡ take (1 + n) l → rest ≡ drop (1 + n) l → left ≡ drop 1 rest
+        → tokens s ≡ token ∷ tokens left
+    next_some token rest left t r d =
+        let h : 0 < prefix_len no_white (b ∷ more) = omega (arith, token_len) in
+        let a : prefix_len no_white (b ∷ more) + 1 ≡ 1 + n + 1 = omega (arith, token_len) in
+        sym (tokens_skip s) ∙ ap tokens (sym e ∙ f)
+        ∙ token_by (b ∷ more) h (lt_or_le (prefix_len no_white (b ∷ more)) (length (b ∷ more)))
+        ∙ ap (λ (k : ℕ). take k (b ∷ more) ∷ tokens (drop (prefix_len no_white (b ∷ more) + 1) (b ∷ more))) token_len
+        ∙ ap (λ (k : ℕ). take (1 + n) (b ∷ more) ∷ tokens (drop k (b ∷ more))) a
+        ∙ ap (λ (x : List ℕ). take (1 + n) x ∷ tokens (drop (1 + n + 1) x)) (sym f)
+        ∙ ap (λ (x : List ℕ). x ∷ tokens (drop (1 + n + 1) l)) (sym t)
+        ∙ ap (λ (x : List ℕ). token ∷ tokens x) (sym (d ∙ ap (drop 1) r ∙ drop-drop 1 (1 + n) l))
 
 parted_short : (b : ℕ) (s : List ℕ) (w : Bool) → length (keep filled (parted w b (split white s))) ≤ suc
     (length (keep filled (split white s)))
@@ -152,6 +160,28 @@ pub tokens_short : (s : List ℕ) → length (tokens s) ≤ length s
 unfolding tokens split keep
 tokens_short [] = omega arith
 tokens_short (b ∷ s) = let h = parted_short b s (white b) in omega (arith, tokens_short s)
+
+-- whether a line is passed over, by its first byte that is not white
+abbrev pub starts_passed : Option ℕ → Bool
+starts_passed None = true
+starts_passed (Some b) = eqb b 124
+
+token_here : (b : ℕ) (s : List ℕ) → white b ≡ false → passed (tokens (b ∷ s)) ≡ eqb b 124
+unfolding tokens split keep
+token_here b s e = rw e (by (split white s))
+  where
+    by : (ps : List (List ℕ)) → passed (keep filled (parted false b ps)) ≡ eqb b 124
+    by [] = refl
+    by (p ∷ ps) = refl
+
+pub passed_first : (s : List ℕ) → passed (tokens s) ≡ starts_passed (find no_white s)
+passed_first [] = ap passed no_tokens
+passed_first (b ∷ s) = by (white b) refl (passed_first s)
+  where
+    by : (w : Bool) → white b ≡ w → passed (tokens s) ≡ starts_passed (find no_white s)
+        → passed (tokens (b ∷ s)) ≡ starts_passed (find no_white (b ∷ s))
+    by true e f = ap passed (white_first b s e) ∙ f ∙ rw e refl
+    by false e f = token_here b s e ∙ rw e refl
 
 -- ---- lines
 

@@ -16,7 +16,11 @@ pub fn is_white(b: u8) -> bool
 fn is_allowed(b: u8) -> bool
     ensures { result ≡ allowed b }
 {
-    matches!(b, b' '..=b'~' | b'\t' | b'\n' | b'\r')
+    if b < b' ' {
+        matches!(b, b'\t' | b'\n' | b'\r')
+    } else {
+        b <= b'~'
+    }
 }
 
 #[tactic(auto, unfolding(rules::specs::Text::name_byte))]
@@ -59,7 +63,7 @@ pub fn is_name(token: &[u8]) -> bool
 pub fn has_sharp(token: &[u8]) -> bool
     ensures { result ≡ sharp token.now }
 {
-    token.contains(&b'#')
+    token.iter().any(|b| *b == b'#')
 }
 
 #[tactic(auto, using(crate::proofs::Mirror::same_pointwise))]

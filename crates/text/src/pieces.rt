@@ -29,11 +29,12 @@ impl<'a> Iterator for Tokens<'a> {
 
     fn next(&mut self) -> Option<&'a [u8]> {
         let (_, line) = self.rest.split_at(prefix_len(self.rest, |b| is_white(**b)));
-        if line.is_empty() {
-            return None;
-        }
-        let (token, rest) = line.split_at(prefix_len(line, |b| !is_white(**b)));
-        self.rest = rest;
+        let (_, more) = line.split_first()?;
+        let (token, rest) = line.split_at(1 + prefix_len(more, |b| !is_white(**b)));
+        self.rest = match rest {
+            [_, left @ ..] => left,
+            [] => rest,
+        };
         Some(token)
     }
 }
@@ -91,12 +92,11 @@ pub fn count(line: &[u8]) -> usize
 }
 
 // Whether a line is blank or starts with `|`.
-#[tactic(auto, using(crate::proofs::Mirror::barred_starts))]
 pub fn is_passed(line: &[u8]) -> bool
     ensures { result ≡ passed (tokens line.now) }
 {
-    match Tokens::of(line).next() {
+    match line.iter().find(|b| !is_white(**b)) {
         None => true,
-        Some(token) => token.starts_with(b"|"),
+        Some(b) => *b == b'|',
     }
 }
