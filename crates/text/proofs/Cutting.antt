@@ -1,12 +1,10 @@
 -- Where the pieces of a text end. Assumes nothing.
-use Rattle.std.proofs.Common.{◌≡◌, ℕ, zero, suc, ◌+◌, ◌-◌, ◌≤◌, ◌<◌, Bool, true, false, not, cond, List, [], ◌∷◌, eqb, length, take, drop, Option, None, Some, refl, sym, ap, ◌∙◌, arith, length-drop}
+use Rattle.std.proofs.Common.{◌≡◌, ℕ, suc, ◌+◌, ◌-◌, ◌≤◌, ◌<◌, Bool, true, false, not, cond, List, [], ◌∷◌, eqb, length, take, drop, Option, None, Some, refl, sym, ap, ◌∙◌, arith, length-drop}
 use mathlib.Core.Logic.{◌⊎◌, inl, inr}
 use borrow.Author.Tests.{ltb-true, ltb-false}
 use lib.Dec.{ltb}
-use lib.ListN.{drop_of_length-le}
 use lib.Seq.{take_all}
-use Rattle.std.specs.List.{prefix_len, find}
-use Rattle.std.proofs.lemmas.List.{drop-drop}
+use Rattle.std.specs.List.{prefix_len, position, find}
 use Rattle.std.proofs.lemmas.List.Sums.{prefix_len-le-length}
 use Rattle.std.proofs.lemmas.List.Splits.{slice_split_first}
 use Rattle.rules.specs.Lists.{keep}
@@ -51,6 +49,9 @@ lt_or_le a b = by (ltb a b) refl
     by true e = inl (ltb-true a b e)
     by false e = inr (ltb-false a b e)
 
+pub rest_of : (s : List ℕ) (k : ℕ) → take (length s - k) (drop k s) ≡ drop k s
+rest_of s k = take_all (length s - k) (drop k s) (omega (arith, length-drop k s))
+
 -- ---- tokens
 
 no_tokens : tokens [] ≡ []
@@ -60,28 +61,6 @@ no_tokens = refl
 white_first : (b : ℕ) (s : List ℕ) → white b ≡ true → tokens (b ∷ s) ≡ tokens s
 unfolding tokens split keep
 white_first b s e = rw e refl
-
-pub tokens_skip : (s : List ℕ) → tokens (drop (prefix_len white s) s) ≡ tokens s
-tokens_skip [] = refl
-tokens_skip (b ∷ s) = by (white b) refl (tokens_skip s)
-  where
-    by : (w : Bool) → white b ≡ w → tokens (drop (prefix_len white s) s) ≡ tokens s
-        → tokens (drop (cond (white b) (1 + prefix_len white s) 0) (b ∷ s)) ≡ tokens (b ∷ s)
-    by true e f =
-        let k : 1 + prefix_len white s ≡ suc (prefix_len white s) = omega arith in
-        rw e (ap (λ (n : ℕ). tokens (drop n (b ∷ s))) k ∙ f ∙ sym (white_first b s e))
-    by false e f = rw e refl
-
-first_not : (s : List ℕ) (b : ℕ) (l : List ℕ) → drop (prefix_len white s) s ≡ b ∷ l → white b ≡ false
-first_not [] b l e = cannot (cc)
-first_not (x ∷ s) b l e = by (white x) refl (λ v. first_not s b l v)
-  where
-    by : (w : Bool) → white x ≡ w → (drop (prefix_len white s) s ≡ b ∷ l → white b ≡ false) → white b ≡ false
-    by true u f =
-        let k : 1 + prefix_len white s ≡ suc (prefix_len white s) = omega arith in
-        let v : drop (1 + prefix_len white s) (x ∷ s) ≡ b ∷ l = rw u at e in
-        f (ap (λ (n : ℕ). drop n (x ∷ s)) (sym k) ∙ v)
-    by false u f = let v : x ∷ s ≡ b ∷ l = rw u at e in let w : x ≡ b = cc in ap white (sym w) ∙ u
 
 keep_first : (t : List ℕ) (ts : List (List ℕ)) → 0 < length t → keep filled (t ∷ ts) ≡ t ∷ keep filled ts
 unfolding keep
@@ -93,56 +72,48 @@ unfolding keep
 keep_last [] h = absurd (omega arith)
 keep_last (b ∷ t) h = refl
 
--- a token begins here: what is left begins after the white byte behind it
-token_by : (s : List ℕ) → 0 < prefix_len no_white s → (prefix_len no_white s < length s) ⊎
-    (length s ≤ prefix_len no_white s)
-    → tokens s ≡ take (prefix_len no_white s) s ∷ tokens (drop (prefix_len no_white s + 1) s)
-unfolding tokens split keep
-token_by s h (inl k) =
-    let n : ℕ = prefix_len no_white s in
-    ap (keep filled) (split_more white s 0 k) ∙ keep_first (take n s) (split white (drop (n + 1) s))
-    (take_some s n h (omega arith))
-  where
-    take_some : (s : List ℕ) (n : ℕ) → 0 < n → n ≤ length s → 0 < length (take n s)
-    take_some [] n h k = absurd (omega arith)
-    take_some (b ∷ s) zero h k = absurd (omega arith)
-    take_some (b ∷ s) (suc n) h k = omega arith
-token_by s h (inr k) =
-    ap (keep filled) (split_last white s k) ∙ keep_last s (let l = prefix_len-le-length no_white s in omega arith)
-    ∙ sym (ap (λ (l : List ℕ). l ∷ tokens (drop (prefix_len no_white s + 1) s)) (take_all (prefix_len no_white s) s k)
-    ∙ ap (λ (l : List (List ℕ)). s ∷ l) (ap tokens (drop_of_length-le s (omega arith)) ∙ no_tokens))
+module _ (s : List ℕ) where
+  abbrev to_white : ℕ
+  to_white = prefix_len no_white s
 
-pub none_left : (s : List ℕ) → length s < 1 → s ≡ drop 1 s
-none_left [] h = refl
-none_left (b ∷ s) h = absurd (omega arith)
+  module _ {n : ℕ} (e : position white s ≡ Some n) where
+    white_at : (n ≡ to_white) × (to_white < length s)
+    white_at = by (ltb to_white (length s)) refl e
+      where
+        by : (t : Bool) → ltb to_white (length s) ≡ t → cond t (Some to_white) None ≡ Some n
+            → (n ≡ to_white) × (to_white < length s)
+        by true f g = let h : to_white ≡ n = cc in (sym h, ltb-true to_white (length s) f)
+        by false f g = cannot (cc)
 
-module _ (s l : List ℕ) (e : l ≡ drop (prefix_len white s) s) where
-  pub next_none : length l ≡ 0 → tokens s ≡ []
-  next_none h = sym (tokens_skip s) ∙ ap tokens (sym e ∙ none l h) ∙ no_tokens
+    pub less_left : length (take (length s - (n + 1)) (drop (n + 1) s)) < length s
+    less_left = omega (arith, white_at.0, white_at.1, ap length (rest_of s (n + 1)), length-drop (n + 1) s)
+
+    piece_is : tokens s ≡ keep filled (take n s ∷ split white (drop (n + 1) s))
+    unfolding tokens
+    piece_is = rw white_at.0 (ap (keep filled) (split_more white s 0 white_at.1))
+
+    pub token_more : (n ≡ 0 → ⊥) → tokens s ≡ take n s ∷ tokens (drop (n + 1) s)
+    unfolding tokens
+    token_more h = piece_is ∙ keep_first (take n s) (split white (drop (n + 1) s))
+        (omega (arith, cut_len no_white s white_at.0, h))
+
+    pub token_none : n ≡ 0 → tokens s ≡ tokens (drop (n + 1) s)
+    unfolding tokens keep
+    token_none h = piece_is ∙ rw h refl
+
+  pub token_last : position white s ≡ None → (length s ≡ 0 → ⊥) → tokens s ≡ s ∷ tokens []
+  unfolding tokens
+  token_last e h =
+      ap (keep filled) (split_last white s (by (ltb to_white (length s)) refl e)) ∙ keep_last s (omega (arith, h))
+      ∙ ap (λ (l : List (List ℕ)). s ∷ l) (sym no_tokens)
     where
-      none : (l : List ℕ) → length l ≡ 0 → l ≡ []
-      none [] h = refl
-      none (b ∷ l) h = absurd (omega arith)
+      by : (t : Bool) → ltb to_white (length s) ≡ t → cond t (Some to_white) None ≡ None → length s ≤ to_white
+      by true f g = cannot (cc)
+      by false f g = ltb-false to_white (length s) f
 
-  module _ {b : ℕ} {more : List ℕ} (f : l ≡ b ∷ more) {n : ℕ} (u : n ≡ prefix_len no_white more) where
-    token_len : prefix_len no_white (b ∷ more) ≡ 1 + n
-    token_len = rw (first_not s b more (sym e ∙ f)) (omega (arith, u))
-
-    pub token_fits : 1 + n ≤ length l
-    token_fits = omega (arith, u, ap length f, prefix_len-le-length no_white more)
-
-    pub next_some : (token rest left : List ℕ) → token ≡ take (1 + n) l → rest ≡ drop (1 + n) l → left ≡ drop 1 rest
-        → tokens s ≡ token ∷ tokens left
-    next_some token rest left t r d =
-        let h : 0 < prefix_len no_white (b ∷ more) = omega (arith, token_len) in
-        let a : prefix_len no_white (b ∷ more) + 1 ≡ 1 + n + 1 = omega (arith, token_len) in
-        sym (tokens_skip s) ∙ ap tokens (sym e ∙ f)
-        ∙ token_by (b ∷ more) h (lt_or_le (prefix_len no_white (b ∷ more)) (length (b ∷ more)))
-        ∙ ap (λ (k : ℕ). take k (b ∷ more) ∷ tokens (drop (prefix_len no_white (b ∷ more) + 1) (b ∷ more))) token_len
-        ∙ ap (λ (k : ℕ). take (1 + n) (b ∷ more) ∷ tokens (drop k (b ∷ more))) a
-        ∙ ap (λ (x : List ℕ). take (1 + n) x ∷ tokens (drop (1 + n + 1) x)) (sym f)
-        ∙ ap (λ (x : List ℕ). x ∷ tokens (drop (1 + n + 1) l)) (sym t)
-        ∙ ap (λ (x : List ℕ). token ∷ tokens x) (sym (d ∙ ap (drop 1) r ∙ drop-drop 1 (1 + n) l))
+pub token_empty : (s : List ℕ) → length s ≡ 0 → tokens s ≡ []
+token_empty [] h = no_tokens
+token_empty (b ∷ s) h = absurd (omega arith)
 
 parted_short : (b : ℕ) (s : List ℕ) (w : Bool) → length (keep filled (parted w b (split white s))) ≤ suc
     (length (keep filled (split white s)))
@@ -184,9 +155,6 @@ passed_first (b ∷ s) = by (white b) refl (passed_first s)
     by false e f = token_here b s e ∙ rw e refl
 
 -- ---- lines
-
-pub rest_of : (s : List ℕ) (k : ℕ) → take (length s - k) (drop k s) ≡ drop k s
-rest_of s k = take_all (length s - k) (drop k s) (omega (arith, length-drop k s))
 
 module _ (left : Option (Bor (List ℕ))) (text : Bor (List ℕ)) (e : left ≡ Some text) {n : ℕ}
     (u : n ≡ prefix_len no_lf text.now) where

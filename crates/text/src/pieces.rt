@@ -28,14 +28,19 @@ impl<'a> Iterator for Tokens<'a> {
     ghost remaining = { item_count (λ s. tokens s.rest.now) };
 
     fn next(&mut self) -> Option<&'a [u8]> {
-        let (_, line) = self.rest.split_at(prefix_len(self.rest, |b| is_white(**b)));
-        let (_, more) = line.split_first()?;
-        let (token, rest) = line.split_at(1 + prefix_len(more, |b| !is_white(**b)));
-        self.rest = match rest {
-            [_, left @ ..] => left,
-            [] => rest,
-        };
-        Some(token)
+        while let Some(end) = self.rest.iter().position(|b| is_white(*b)) {
+            let line = self.rest;
+            self.rest = &line[end + 1..];
+            if end != 0 {
+                return Some(&line[..end]);
+            }
+        }
+        let last = self.rest;
+        if last.is_empty() {
+            return None;
+        }
+        self.rest = &[];
+        Some(last)
     }
 }
 
