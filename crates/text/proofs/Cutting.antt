@@ -1,17 +1,16 @@
 -- Where the pieces of a text end. Assumes nothing.
-use Rattle.std.proofs.Common.{◌≡◌, ℕ, suc, ◌+◌, ◌-◌, ◌≤◌, ◌<◌, Bool, true, false, not, cond, List, [], ◌∷◌, eqb, length, take, drop, Option, None, Some, refl, sym, ap, ◌∙◌, arith, length-drop}
+use Rattle.std.proofs.Common.{◌≡◌, ℕ, suc, ◌+◌, ◌-◌, ◌≤◌, ◌<◌, Bool, true, false, not, List, [], ◌∷◌, eqb, length, take, drop, Option, None, Some, refl, sym, ap, ◌∙◌, arith, length-drop}
 use mathlib.Core.Logic.{◌⊎◌, inl, inr}
 use borrow.Author.Tests.{ltb-true, ltb-false}
 use lib.Dec.{ltb}
 use lib.Seq.{take_all}
-use Rattle.std.specs.List.{prefix_len, position, find}
+use Rattle.std.specs.List.{prefix_len, find}
 use Rattle.std.proofs.lemmas.List.Sums.{prefix_len-le-length}
 use Rattle.std.proofs.lemmas.List.Splits.{slice_split_first}
 use Rattle.rules.specs.Lists.{keep}
 use denote.Ref.{Bor}
 use Rattle.std.proofs.lemmas.List.Folds.{length-prefix_len}
 use Rattle.rules.specs.Text.{parted, split, filled, tokens, passed, lines, white, first_part, name_of}
-use Rattle.laws.specs.Lists.{cannot}
 use Rattle.text.specs.Pieces.{no_white, no_lf, no_colon, lines_left, bytes_left}
 use Rattle.text.proofs.Mirror.{split_slice}
 
@@ -72,44 +71,35 @@ unfolding keep
 keep_last [] h = absurd (omega arith)
 keep_last (b ∷ t) h = refl
 
-module _ (s : List ℕ) where
-  abbrev to_white : ℕ
-  to_white = prefix_len no_white s
+module _ (s : List ℕ) {n : ℕ} (u : n ≡ prefix_len no_white s) where
+  module _ (h : n ≡ length s → ⊥) where
+    white_after : prefix_len no_white s < length s
+    white_after = omega (arith, u, h, prefix_len-le-length no_white s)
 
-  module _ {n : ℕ} (e : position white s ≡ Some n) where
-    white_at : (n ≡ to_white) × (to_white < length s)
-    white_at = by (ltb to_white (length s)) refl e
-      where
-        by : (t : Bool) → ltb to_white (length s) ≡ t → cond t (Some to_white) None ≡ Some n
-            → (n ≡ to_white) × (to_white < length s)
-        by true f g = let h : to_white ≡ n = cc in (sym h, ltb-true to_white (length s) f)
-        by false f g = cannot (cc)
+    pub cut_low : n + 1 ≤ length s
+    cut_low = omega (arith, u, white_after)
 
     pub less_left : length (take (length s - (n + 1)) (drop (n + 1) s)) < length s
-    less_left = omega (arith, white_at.0, white_at.1, ap length (rest_of s (n + 1)), length-drop (n + 1) s)
+    less_left = omega (arith, u, white_after, ap length (rest_of s (n + 1)), length-drop (n + 1) s)
 
     piece_is : tokens s ≡ keep filled (take n s ∷ split white (drop (n + 1) s))
     unfolding tokens
-    piece_is = rw white_at.0 (ap (keep filled) (split_more white s 0 white_at.1))
+    piece_is = rw u (ap (keep filled) (split_more white s 0 white_after))
 
     pub token_more : (n ≡ 0 → ⊥) → tokens s ≡ take n s ∷ tokens (drop (n + 1) s)
     unfolding tokens
-    token_more h = piece_is ∙ keep_first (take n s) (split white (drop (n + 1) s))
-        (omega (arith, cut_len no_white s white_at.0, h))
+    token_more k = piece_is ∙ keep_first (take n s) (split white (drop (n + 1) s))
+        (omega (arith, cut_len no_white s u, k))
 
     pub token_none : n ≡ 0 → tokens s ≡ tokens (drop (n + 1) s)
     unfolding tokens keep
-    token_none h = piece_is ∙ rw h refl
+    token_none k = piece_is ∙ rw k refl
 
-  pub token_last : position white s ≡ None → (length s ≡ 0 → ⊥) → tokens s ≡ s ∷ tokens []
+  pub token_last : n ≡ length s → (length s ≡ 0 → ⊥) → tokens s ≡ s ∷ tokens []
   unfolding tokens
   token_last e h =
-      ap (keep filled) (split_last white s (by (ltb to_white (length s)) refl e)) ∙ keep_last s (omega (arith, h))
+      ap (keep filled) (split_last white s (omega (arith, u, e))) ∙ keep_last s (omega (arith, h))
       ∙ ap (λ (l : List (List ℕ)). s ∷ l) (sym no_tokens)
-    where
-      by : (t : Bool) → ltb to_white (length s) ≡ t → cond t (Some to_white) None ≡ None → length s ≤ to_white
-      by true f g = cannot (cc)
-      by false f g = ltb-false to_white (length s) f
 
 pub token_empty : (s : List ℕ) → length s ≡ 0 → tokens s ≡ []
 token_empty [] h = no_tokens

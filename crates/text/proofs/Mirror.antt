@@ -1,10 +1,17 @@
 -- The words of the definitions are std's. Assumes nothing.
-use Rattle.std.proofs.Common.{◌≡◌, ℕ, Bool, true, false, ◌&&◌, ◌||◌, cond, List, map, [], ◌∷◌, eqb, ◌+◌, Some, filter, refl, sym, ap, ◌∙◌}
-use borrow.Author.Tests.{eq-eqb, ne_eqb, eqb-true, eqb-false}
-use Rattle.std.specs.List.{list_any, list_all, slice_split, onto_first, position_from, starts_with}
+use Rattle.std.proofs.Common.{◌≡◌, ℕ, suc, not, length, ltb, lt-ltb, arith, Bool, true, false, ◌&&◌, ◌||◌, cond, List, map, [], ◌∷◌, eqb, ◌+◌, Some, filter, refl, sym, ap, ◌∙◌}
+use borrow.Author.Tests.{eq-eqb, ne_eqb, eqb-true, eqb-false, ltb-true, ltb-false, le-ltb}
+use Rattle.std.specs.List.{list_any, list_all, prefix_len, slice_split, onto_first, position_from, starts_with}
 use lib.Pointwise.{pointwise}
 use Rattle.rules.specs.Lists.{also, keep, each, has}
 use Rattle.rules.specs.Text.{parted, split, barred, name_of, place, same_name}
+
+more_lt : (a b : ℕ) → ltb (1 + a) (suc b) ≡ ltb a b
+more_lt a b = by (ltb a b) refl
+  where
+    by : (r : Bool) → ltb a b ≡ r → ltb (1 + a) (suc b) ≡ r
+    by true e = lt-ltb (1 + a) (suc b) (omega (arith, ltb-true a b e))
+    by false e = le-ltb (1 + a) (suc b) (omega (arith, ltb-false a b e))
 
 module _ {A : Type 0} (p : A → Bool) where
   pub each_all : (xs : List A) → each p xs ≡ list_all p xs
@@ -16,6 +23,17 @@ module _ {A : Type 0} (p : A → Bool) where
   unfolding has
   has_any [] = refl
   has_any (x ∷ xs) = ap (λ (b : Bool). p x || b) (has_any xs)
+
+  -- something has it, if not all of the list comes before
+  pub has_after : (xs : List A) → has p xs ≡ ltb (prefix_len (λ x. not (p x)) xs) (length xs)
+  unfolding has
+  has_after [] = refl
+  has_after (x ∷ xs) = by (p x) (has_after xs)
+    where
+      by : (b : Bool) → has p xs ≡ ltb (prefix_len (λ x. not (p x)) xs) (length xs)
+          → (b || has p xs) ≡ ltb (cond (not b) (1 + prefix_len (λ x. not (p x)) xs) 0) (suc (length xs))
+      by true e = sym (lt-ltb 0 (suc (length xs)) (omega arith))
+      by false e = e ∙ sym (more_lt (prefix_len (λ x. not (p x)) xs) (length xs))
 
   pub keep_filter : (xs : List A) → keep p xs ≡ filter p xs
   unfolding keep

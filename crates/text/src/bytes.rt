@@ -59,11 +59,10 @@ pub fn is_name(token: &[u8]) -> bool
     token.iter().all(|b| is_name_byte(*b))
 }
 
-#[tactic(auto, using(crate::proofs::Mirror::has_any))]
 pub fn has_sharp(token: &[u8]) -> bool
     ensures { result ≡ sharp token.now }
 {
-    token.iter().any(|b| *b == b'#')
+    prefix_len(token, |b| **b != b'#') < token.len()
 }
 
 #[tactic(auto, using(crate::proofs::Mirror::same_pointwise))]

@@ -28,19 +28,19 @@ impl<'a> Iterator for Tokens<'a> {
     ghost remaining = { item_count (λ s. tokens s.rest.now) };
 
     fn next(&mut self) -> Option<&'a [u8]> {
-        while let Some(end) = self.rest.iter().position(|b| is_white(*b)) {
+        while !self.rest.is_empty() {
             let line = self.rest;
+            let end = prefix_len(line, |b| !is_white(**b));
+            if end == line.len() {
+                self.rest = &[];
+                return Some(line);
+            }
             self.rest = &line[end + 1..];
             if end != 0 {
                 return Some(&line[..end]);
             }
         }
-        let last = self.rest;
-        if last.is_empty() {
-            return None;
-        }
-        self.rest = &[];
-        Some(last)
+        None
     }
 }
 

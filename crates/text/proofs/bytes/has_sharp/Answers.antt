@@ -1,11 +1,9 @@
-use Rattle.std.proofs.Common.{rules, eqb, sym, ◌∙◌}
+use Rattle.std.proofs.Common.{rules, ltb, length, eqb, sym, ap, ◌∙◌}
 use borrow.Author.Tests.{tests}
-use Rattle.std.proofs.lemmas.Iterator.{YieldsList-from_slice}
-use Rattle.std.proofs.lemmas.Iterator.Search.{any_from_yields_List}
-use Rattle.text.proofs.Mirror.{has_any}
+use Rattle.text.specs.Pieces.{no_sharp}
+use Rattle.text.proofs.Mirror.{has_after}
 use Rattle.text.proofs.bytes.has_sharp.Goals as goal
 
 pub returns : goal.returns
-returns c =
-    any_from_yields_List (λ b. eqb b 35) _ _ _ c.any.ensures.ran (YieldsList-from_slice c.args.token.now cc)
-    (λ x b q k. search (rules, tests)) ∙ sym (has_any (λ b. eqb b 35) c.args.token.now)
+returns c = let n = c.prefix_len.ensures no_sharp (λ x b q k. search (rules, tests)) in
+    ap (λ m. ltb m (length c.args.token.now)) n ∙ sym (has_after (λ b. eqb b 35) c.args.token.now)
