@@ -71,6 +71,7 @@ unfolding keep
 keep_last [] h = absurd (omega arith)
 keep_last (b ∷ t) h = refl
 
+-- the first piece, as long as no white byte comes: a token, unless it is empty
 module _ (s : List ℕ) {n : ℕ} (u : n ≡ prefix_len no_white s) where
   module _ (h : n ≡ length s → ⊥) where
     white_after : prefix_len no_white s < length s
@@ -78,9 +79,6 @@ module _ (s : List ℕ) {n : ℕ} (u : n ≡ prefix_len no_white s) where
 
     pub cut_low : n + 1 ≤ length s
     cut_low = omega (arith, u, white_after)
-
-    pub less_left : length (take (length s - (n + 1)) (drop (n + 1) s)) < length s
-    less_left = omega (arith, u, white_after, ap length (rest_of s (n + 1)), length-drop (n + 1) s)
 
     piece_is : tokens s ≡ keep filled (take n s ∷ split white (drop (n + 1) s))
     unfolding tokens

@@ -7,7 +7,7 @@ use crate::bytes::{has_sharp, is_bar};
 use crate::pieces::Tokens;
 
 // The names of an items line: so many stand before its `|`, and others after it. Primary names with `#` are numbered
-// first or last, by the flag: so many of them are numbered first.
+// first or last, by the flag. How many are numbered first is counted once, and not at each name that is looked up.
 #[derive(Clone, Copy)]
 pub struct Names<'a> {
     pub items: &'a [u8],
@@ -17,10 +17,10 @@ pub struct Names<'a> {
     firsts: usize,
     ghost few: { (length (tokens items.now) ≤ 65536) × (length (tokens secondary.now) ≤ 65536) },
     ghost counted: { primaries ≤ length (tokens items.now) },
-    ghost split: { firsts ≡ length (filter (λ t. beq (sharp t) front) (take primaries (tokens items.now))) },
+    ghost ahead: { firsts ≡ length (filter (λ t. beq (sharp t) front) (take primaries (tokens items.now))) },
 }
 
-// How many of the first names of an items line have a `#`, or have none.
+// How many of so many names of an items line have a `#`, or have none.
 fn count_of(items: &[u8], names: usize, with: bool) -> usize
     requires { length (tokens items.now) ≤ 65536 }
     ensures { result ≡ length (filter (λ t. beq (sharp t) with) (take names (tokens items.now))) }

@@ -27,6 +27,7 @@ impl<'a> Iterator for Tokens<'a> {
 
     ghost remaining = { item_count (λ s. tokens s.rest.now) };
 
+    // Each byte is looked at once: a token goes with the white byte behind it.
     fn next(&mut self) -> Option<&'a [u8]> {
         while !self.rest.is_empty() {
             let line = self.rest;

@@ -19,14 +19,14 @@ returns-then-with-self-clause-value c =
 pub returns-else-with-self-clause-value : goal.returns-else-with-self-clause-value
 returns-else-with-self-clause-value c =
     sym (second_number c.args.self.now.front c.args.name.now (primary_names c.args.self.now) c.has_sharp-with.ensures
-    (beq_not _ _ c.if-with-self.false) c.args.self.now.split
+    (beq_not _ _ c.if-with-self.false) c.args.self.now.ahead
     ∙ ap (option_map (λ i. c.args.self.now.firsts + i)) (sym c.place_among.ensures.value ∙ c.in_ok-place.was))
 
 firsts_few : (n : Names) → n.firsts ≤ 65536
 firsts_few n =
     let h = with_few n.front [] (primary_names n) n.front in
     let l = length-take n.primaries (tokens n.items.now) in
-    omega (arith, n.split, n.few)
+    omega (arith, n.ahead, n.few)
 
 pub overflow_add-result : goal.overflow_add-result
 overflow_add-result c = omega (arith, firsts_few c.args.self.now, c.in_ok-place.ensures.low)

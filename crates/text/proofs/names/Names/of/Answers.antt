@@ -22,7 +22,7 @@ invariant_of-result c =
     record {
       few = (let h = tokens_short c.args.items.now in omega arith, found_few F c.requires);
       counted = found_low F;
-      split = c.count_of.ensures;
+      ahead = c.count_of.ensures;
     }
 
 pub returns-clause-value : goal.returns-clause-value
