@@ -1,18 +1,16 @@
 -- Where the pieces of a text end. Assumes nothing.
-use Rattle.std.proofs.Common.{◌≡◌, ℕ, zero, suc, ◌+◌, ◌-◌, ◌≤◌, ◌<◌, Bool, true, false, not, cond, List, [], ◌∷◌, eqb, length, get_or, take, drop, Option, None, Some, refl, sym, ap, ◌∙◌, arith, add-one, drop-cons, length-drop}
+use Rattle.std.proofs.Common.{◌≡◌, ℕ, suc, ◌+◌, ◌-◌, ◌≤◌, ◌<◌, Bool, true, false, not, List, [], ◌∷◌, eqb, length, take, drop, Option, None, Some, refl, sym, ap, ◌∙◌, arith, length-drop}
 use mathlib.Core.Logic.{◌⊎◌, inl, inr}
-use borrow.Author.Tests.{ltb-true, ltb-false, eqb-true, eqb-false}
+use borrow.Author.Tests.{ltb-true, ltb-false}
 use lib.Dec.{ltb}
-use lib.ListN.{drop_of_length-le}
 use lib.Seq.{take_all}
-use Rattle.std.specs.List.{prefix_len}
-use Rattle.std.proofs.lemmas.List.Sums.{prefix_len_stops, prefix_len-le-length}
+use Rattle.std.specs.List.{prefix_len, find}
+use Rattle.std.proofs.lemmas.List.Sums.{prefix_len-le-length}
 use Rattle.std.proofs.lemmas.List.Splits.{slice_split_first}
 use Rattle.rules.specs.Lists.{keep}
 use denote.Ref.{Bor}
 use Rattle.std.proofs.lemmas.List.Folds.{length-prefix_len}
-use Rattle.rules.specs.Text.{parted, split, filled, tokens, lines, white, first_part, name_of}
-use Rattle.laws.specs.Lists.{cannot}
+use Rattle.rules.specs.Text.{parted, split, filled, tokens, passed, lines, white, first_part, name_of}
 use Rattle.text.specs.Pieces.{no_white, no_lf, no_colon, lines_left, bytes_left}
 use Rattle.text.proofs.Mirror.{split_slice}
 
@@ -50,6 +48,9 @@ lt_or_le a b = by (ltb a b) refl
     by true e = inl (ltb-true a b e)
     by false e = inr (ltb-false a b e)
 
+pub rest_of : (s : List ℕ) (k : ℕ) → take (length s - k) (drop k s) ≡ drop k s
+rest_of s k = take_all (length s - k) (drop k s) (omega (arith, length-drop k s))
+
 -- ---- tokens
 
 no_tokens : tokens [] ≡ []
@@ -59,28 +60,6 @@ no_tokens = refl
 white_first : (b : ℕ) (s : List ℕ) → white b ≡ true → tokens (b ∷ s) ≡ tokens s
 unfolding tokens split keep
 white_first b s e = rw e refl
-
-pub tokens_skip : (s : List ℕ) → tokens (drop (prefix_len white s) s) ≡ tokens s
-tokens_skip [] = refl
-tokens_skip (b ∷ s) = by (white b) refl (tokens_skip s)
-  where
-    by : (w : Bool) → white b ≡ w → tokens (drop (prefix_len white s) s) ≡ tokens s
-        → tokens (drop (cond (white b) (1 + prefix_len white s) 0) (b ∷ s)) ≡ tokens (b ∷ s)
-    by true e f =
-        let k : 1 + prefix_len white s ≡ suc (prefix_len white s) = omega arith in
-        rw e (ap (λ (n : ℕ). tokens (drop n (b ∷ s))) k ∙ f ∙ sym (white_first b s e))
-    by false e f = rw e refl
-
-first_not : (s : List ℕ) (b : ℕ) (l : List ℕ) → drop (prefix_len white s) s ≡ b ∷ l → white b ≡ false
-first_not [] b l e = cannot (cc)
-first_not (x ∷ s) b l e = by (white x) refl (λ v. first_not s b l v)
-  where
-    by : (w : Bool) → white x ≡ w → (drop (prefix_len white s) s ≡ b ∷ l → white b ≡ false) → white b ≡ false
-    by true u f =
-        let k : 1 + prefix_len white s ≡ suc (prefix_len white s) = omega arith in
-        let v : drop (1 + prefix_len white s) (x ∷ s) ≡ b ∷ l = rw u at e in
-        f (ap (λ (n : ℕ). drop n (x ∷ s)) (sym k) ∙ v)
-    by false u f = let v : x ∷ s ≡ b ∷ l = rw u at e in let w : x ≡ b = cc in ap white (sym w) ∙ u
 
 keep_first : (t : List ℕ) (ts : List (List ℕ)) → 0 < length t → keep filled (t ∷ ts) ≡ t ∷ keep filled ts
 unfolding keep
@@ -92,49 +71,37 @@ unfolding keep
 keep_last [] h = absurd (omega arith)
 keep_last (b ∷ t) h = refl
 
-token_by : (s : List ℕ) → 0 < prefix_len no_white s → (prefix_len no_white s < length s) ⊎
-    (length s ≤ prefix_len no_white s)
-    → tokens s ≡ take (prefix_len no_white s) s ∷ tokens (drop (prefix_len no_white s) s)
-unfolding tokens
-token_by s h (inl k) =
-    let n : ℕ = prefix_len no_white s in
-    let w : white (get_or s n 0) ≡ true = white_stop s k in
-    ap (keep filled) (split_more white s 0 k) ∙ keep_first (take n s) (split white (drop (n + 1) s))
-    (take_some s n h (omega arith))
-    ∙ ap (λ (l : List (List ℕ)). take n s ∷ l)
-    (sym (ap tokens (next_is s n k) ∙ white_first (get_or s n 0) (drop (n + 1) s) w))
-  where
-    white_stop : (s : List ℕ) → prefix_len no_white s < length s → white (get_or s (prefix_len no_white s) 0) ≡ true
-    white_stop s k = not_not (white (get_or s (prefix_len no_white s) 0)) (prefix_len_stops no_white s 0 k)
-      where
-        not_not : (b : Bool) → not b ≡ false → b ≡ true
-        not_not true e = refl
-        not_not false e = sym e
+-- the first piece, as long as no white byte comes: a token, unless it is empty
+module _ (s : List ℕ) {n : ℕ} (u : n ≡ prefix_len no_white s) where
+  module _ (h : n ≡ length s → ⊥) where
+    white_after : prefix_len no_white s < length s
+    white_after = omega (arith, u, h, prefix_len-le-length no_white s)
 
-    next_is : (s : List ℕ) (n : ℕ) → n < length s → drop n s ≡ get_or s n 0 ∷ drop (n + 1) s
-    next_is s n h = rw (add-one n) (drop-cons s n 0 h)
+    pub cut_low : n + 1 ≤ length s
+    cut_low = omega (arith, u, white_after)
 
-    take_some : (s : List ℕ) (n : ℕ) → 0 < n → n ≤ length s → 0 < length (take n s)
-    take_some [] n h k = absurd (omega arith)
-    take_some (b ∷ s) zero h k = absurd (omega arith)
-    take_some (b ∷ s) (suc n) h k = omega arith
-token_by s h (inr k) =
-    ap (keep filled) (split_last white s k) ∙ keep_last s (let l = prefix_len-le-length no_white s in omega arith)
-    ∙ sym (ap (λ (l : List ℕ). l ∷ tokens (drop (prefix_len no_white s) s)) (take_all (prefix_len no_white s) s k)
-    ∙ ap (λ (l : List (List ℕ)). s ∷ l) (ap tokens (drop_of_length-le s k) ∙ no_tokens))
+    piece_is : tokens s ≡ keep filled (take n s ∷ split white (drop (n + 1) s))
+    unfolding tokens
+    piece_is = rw u (ap (keep filled) (split_more white s 0 white_after))
 
-pub next_none : (s l : List ℕ) → l ≡ drop (prefix_len white s) s → eqb (length l) 0 ≡ true → tokens s ≡ []
-next_none s [] e n = sym (tokens_skip s) ∙ ap tokens (sym e) ∙ no_tokens
-next_none s (b ∷ l) e n = let k = eqb-true (suc (length l)) 0 n in absurd (omega arith)
+    pub token_more : (n ≡ 0 → ⊥) → tokens s ≡ take n s ∷ tokens (drop (n + 1) s)
+    unfolding tokens
+    token_more k = piece_is ∙ keep_first (take n s) (split white (drop (n + 1) s))
+        (omega (arith, cut_len no_white s u, k))
 
-pub next_some : (s l : List ℕ) → l ≡ drop (prefix_len white s) s → eqb (length l) 0 ≡ false
-    → tokens s ≡ take (prefix_len no_white l) l ∷ tokens (drop (prefix_len no_white l) l)
-next_some s [] e n = absurd (eqb-false 0 0 n refl)
-next_some s (b ∷ l) e n = sym (tokens_skip s) ∙ ap tokens (sym e)
-    ∙ token_by (b ∷ l) (some (first_not s b l (sym e))) (lt_or_le (prefix_len no_white (b ∷ l)) (length (b ∷ l)))
-  where
-    some : white b ≡ false → 0 < prefix_len no_white (b ∷ l)
-    some u = rw u (omega arith)
+    pub token_none : n ≡ 0 → tokens s ≡ tokens (drop (n + 1) s)
+    unfolding tokens keep
+    token_none k = piece_is ∙ rw k refl
+
+  pub token_last : n ≡ length s → (length s ≡ 0 → ⊥) → tokens s ≡ s ∷ tokens []
+  unfolding tokens
+  token_last e h =
+      ap (keep filled) (split_last white s (omega (arith, u, e))) ∙ keep_last s (omega (arith, h))
+      ∙ ap (λ (l : List (List ℕ)). s ∷ l) (sym no_tokens)
+
+pub token_empty : (s : List ℕ) → length s ≡ 0 → tokens s ≡ []
+token_empty [] h = no_tokens
+token_empty (b ∷ s) h = absurd (omega arith)
 
 parted_short : (b : ℕ) (s : List ℕ) (w : Bool) → length (keep filled (parted w b (split white s))) ≤ suc
     (length (keep filled (split white s)))
@@ -153,10 +120,29 @@ unfolding tokens split keep
 tokens_short [] = omega arith
 tokens_short (b ∷ s) = let h = parted_short b s (white b) in omega (arith, tokens_short s)
 
--- ---- lines
+-- whether a line is passed over, by its first byte that is not white
+abbrev pub starts_passed : Option ℕ → Bool
+starts_passed None = true
+starts_passed (Some b) = eqb b 124
 
-pub rest_of : (s : List ℕ) (k : ℕ) → take (length s - k) (drop k s) ≡ drop k s
-rest_of s k = take_all (length s - k) (drop k s) (omega (arith, length-drop k s))
+token_here : (b : ℕ) (s : List ℕ) → white b ≡ false → passed (tokens (b ∷ s)) ≡ eqb b 124
+unfolding tokens split keep
+token_here b s e = rw e (by (split white s))
+  where
+    by : (ps : List (List ℕ)) → passed (keep filled (parted false b ps)) ≡ eqb b 124
+    by [] = refl
+    by (p ∷ ps) = refl
+
+pub passed_first : (s : List ℕ) → passed (tokens s) ≡ starts_passed (find no_white s)
+passed_first [] = ap passed no_tokens
+passed_first (b ∷ s) = by (white b) refl (passed_first s)
+  where
+    by : (w : Bool) → white b ≡ w → passed (tokens s) ≡ starts_passed (find no_white s)
+        → passed (tokens (b ∷ s)) ≡ starts_passed (find no_white (b ∷ s))
+    by true e f = ap passed (white_first b s e) ∙ f ∙ rw e refl
+    by false e f = token_here b s e ∙ rw e refl
+
+-- ---- lines
 
 module _ (left : Option (Bor (List ℕ))) (text : Bor (List ℕ)) (e : left ≡ Some text) {n : ℕ}
     (u : n ≡ prefix_len no_lf text.now) where

@@ -1,10 +1,17 @@
 -- The words of the definitions are std's. Assumes nothing.
-use Rattle.std.proofs.Common.{◌≡◌, ℕ, Bool, true, false, ◌&&◌, ◌||◌, cond, List, map, [], ◌∷◌, eqb, ◌+◌, Some, filter, refl, sym, ap, ◌∙◌}
-use borrow.Author.Tests.{eq-eqb, ne_eqb, eqb-true, eqb-false}
-use Rattle.std.specs.List.{list_any, list_all, slice_split, onto_first, position_from, starts_with}
+use Rattle.std.proofs.Common.{◌≡◌, ℕ, suc, not, length, ltb, lt-ltb, arith, Bool, true, false, ◌&&◌, ◌||◌, cond, List, map, [], ◌∷◌, eqb, ◌+◌, Some, filter, refl, sym, ap, ◌∙◌}
+use borrow.Author.Tests.{ltb-true, ltb-false, le-ltb}
+use Rattle.std.specs.List.{list_any, list_all, prefix_len, slice_split, onto_first, position_from}
 use lib.Pointwise.{pointwise}
 use Rattle.rules.specs.Lists.{also, keep, each, has}
-use Rattle.rules.specs.Text.{parted, split, barred, name_of, place, same_name}
+use Rattle.rules.specs.Text.{parted, split, name_of, place, same_name}
+
+more_lt : (a b : ℕ) → ltb (1 + a) (suc b) ≡ ltb a b
+more_lt a b = by (ltb a b) refl
+  where
+    by : (r : Bool) → ltb a b ≡ r → ltb (1 + a) (suc b) ≡ r
+    by true e = lt-ltb (1 + a) (suc b) (omega (arith, ltb-true a b e))
+    by false e = le-ltb (1 + a) (suc b) (omega (arith, ltb-false a b e))
 
 module _ {A : Type 0} (p : A → Bool) where
   pub each_all : (xs : List A) → each p xs ≡ list_all p xs
@@ -12,10 +19,16 @@ module _ {A : Type 0} (p : A → Bool) where
   each_all [] = refl
   each_all (x ∷ xs) = ap (λ (b : Bool). p x && b) (each_all xs)
 
-  pub has_any : (xs : List A) → has p xs ≡ list_any p xs
+  -- the test holds somewhere, if it fails on less than the whole list
+  pub has_after : (xs : List A) → has p xs ≡ ltb (prefix_len (λ x. not (p x)) xs) (length xs)
   unfolding has
-  has_any [] = refl
-  has_any (x ∷ xs) = ap (λ (b : Bool). p x || b) (has_any xs)
+  has_after [] = refl
+  has_after (x ∷ xs) = by (p x) (has_after xs)
+    where
+      by : (b : Bool) → has p xs ≡ ltb (prefix_len (λ x. not (p x)) xs) (length xs)
+          → (b || has p xs) ≡ ltb (cond (not b) (1 + prefix_len (λ x. not (p x)) xs) 0) (suc (length xs))
+      by true e = sym (lt-ltb 0 (suc (length xs)) (omega arith))
+      by false e = e ∙ sym (more_lt (prefix_len (λ x. not (p x)) xs) (length xs))
 
   pub keep_filter : (xs : List A) → keep p xs ≡ filter p xs
   unfolding keep
@@ -61,18 +74,3 @@ module _ (t : List ℕ) where
   named_any [] = refl
   named_any (n ∷ ns) =
       rw (same_pointwise t (name_of n)) (ap (λ (b : Bool). pointwise eqb t (name_of n) || b) (named_any ns))
-
-turned : (a b : ℕ) → eqb a b ≡ eqb b a
-turned a b = by (eqb a b) refl
-  where
-    by : (r : Bool) → eqb a b ≡ r → r ≡ eqb b a
-    by true e = sym (eq-eqb b a (sym (eqb-true a b e)))
-    by false e = sym (ne_eqb b a (λ u. eqb-false a b e (sym u)))
-
-pub barred_starts : (t : List ℕ) → barred t ≡ starts_with eqb t (124 ∷ [])
-barred_starts [] = refl
-barred_starts (b ∷ t) = turned b 124 ∙ by (eqb 124 b)
-  where
-    by : (r : Bool) → r ≡ (r && true)
-    by true = refl
-    by false = refl

@@ -1,5 +1,5 @@
 -- The numbers of names. Assumes nothing.
-use Rattle.std.proofs.Common.{◌≡◌, ℕ, suc, ◌+◌, Bool, true, false, not, ◌&&◌, cond, List, [], ◌∷◌, ◌++◌, eqb, length, filter, Option, None, Some, option_map, refl, sym, ap, ◌∙◌, arith, length-append, eqb-true}
+use Rattle.std.proofs.Common.{◌≡◌, ℕ, suc, ◌+◌, ◌≤◌, Bool, true, false, not, ◌&&◌, cond, List, [], ◌∷◌, ◌++◌, eqb, length, filter, Option, None, Some, option_map, refl, sym, ap, ◌∙◌, arith, length-append, eqb-true}
 use mathlib.Core.Bool.{beq}
 use lib.Pointwise.{pointwise}
 use Rattle.std.specs.List.{position_from}
@@ -152,7 +152,7 @@ module _ (front : Bool) (t : List ℕ) (ns : List (List ℕ)) where
 
   -- or among those numbered after them
   primary_second : (sharp t ≡ front → ⊥) → place 0 t (moved_names front ns) ≡ option_map
-      (λ i. length (with_sharp (not (sharp t)) ns) + i) (place_in t (with_sharp (sharp t) ns))
+      (λ i. length (with_sharp front ns) + i) (place_in t (with_sharp (sharp t) ns))
   primary_second n =
       both ∙ ap (λ (o : Option ℕ). or_else o (place (0 + length (with_sharp front ns)) t (with_sharp (not front) ns)))
       (absent 0 t front ns (apart (sharp t) front n))
@@ -170,7 +170,7 @@ module _ (front : Bool) (t : List ℕ) (ns : List (List ℕ)) where
       apart false true n = refl
 
       turn : (a b : Bool) → (a ≡ b → ⊥) → option_map (λ i. length (with_sharp b ns) + i)
-          (place_in t (with_sharp (not b) ns)) ≡ option_map (λ i. length (with_sharp (not a) ns) + i)
+          (place_in t (with_sharp (not b) ns)) ≡ option_map (λ i. length (with_sharp b ns) + i)
           (place_in t (with_sharp a ns))
       turn true true n = absurd (n refl)
       turn false false n = absurd (n refl)
@@ -184,11 +184,11 @@ module _ (front : Bool) (t : List ℕ) (ns : List (List ℕ)) where
     pub first_number : w ≡ front → place 0 t (moved_names front ns) ≡ place_in t (with_sharp w ns)
     first_number e = primary_first (sym u ∙ e) ∙ here
 
-    pub second_number : {n : ℕ} → (w ≡ front → ⊥) → n ≡ length (with_sharp (not w) ns)
+    pub second_number : {n : ℕ} → (w ≡ front → ⊥) → n ≡ length (with_sharp front ns)
         → place 0 t (moved_names front ns) ≡ option_map (λ i. n + i) (place_in t (with_sharp w ns))
     second_number n l =
         primary_second (λ e. n (u ∙ e))
-        ∙ ap (λ (b : Bool). option_map (λ (i : ℕ). length (with_sharp (not b) ns) + i)
+        ∙ ap (λ (b : Bool). option_map (λ (i : ℕ). length (with_sharp front ns) + i)
         (place_in t (with_sharp b ns))) (sym u)
         ∙ ap (λ (k : ℕ). option_map (λ (i : ℕ). k + i) (place_in t (with_sharp w ns))) (sym l)
 
@@ -198,7 +198,7 @@ module _ (front : Bool) (t : List ℕ) (ns : List (List ℕ)) where
         by : (b : Bool) → beq w front ≡ b → place 0 t (moved_names front ns) ≡ None
         by true e = first_number (beq_is w front e) ∙ z
         by false e = second_number (beq_not w front e) refl ∙ ap
-            (option_map (λ (i : ℕ). length (with_sharp (not w) ns) + i)) z
+            (option_map (λ (i : ℕ). length (with_sharp front ns) + i)) z
 
   split_long : (b : Bool) → length (with_sharp b ns) + length (with_sharp (not b) ns) ≡ length ns
   split_long b = by ns
@@ -213,6 +213,9 @@ module _ (front : Bool) (t : List ℕ) (ns : List (List ℕ)) where
       by : (zs : List (List ℕ)) → length (with_sharp b zs) + length (with_sharp (not b) zs) ≡ length zs
       by [] = omega arith
       by (z ∷ zs) = one (sharp z) b z (with_sharp b zs) (with_sharp (not b) zs) zs (by zs)
+
+  pub with_few : (b : Bool) → length (with_sharp b ns) ≤ length ns
+  with_few b = omega (arith, split_long b)
 
   pub moved_long : length (moved_names front ns) ≡ length ns
   moved_long = ap length (moved_as front ns) ∙ length-append (with_sharp front ns) (with_sharp (not front) ns)

@@ -13,6 +13,9 @@ no_lf b = not (eqb b 10)
 abbrev pub no_colon : ℕ → Bool
 no_colon b = not (eqb b 58)
 
+abbrev pub no_sharp : ℕ → Bool
+no_sharp b = not (eqb b 35)
+
 -- each call of the closure f tells what p does of a byte, and leaves f as it was
 abbrev pub Tests : {F : Type 0} → Mut F (Bor (Bor ℕ) × Unit {0}) Bool → F → (ℕ → Bool) → Type 0
 Tests {F} g f p = (b : Bor ℕ) (r : Bool) (f' : F) → CalledAt g f b r f' → (f' ≡ f) × (r ≡ p b.now)

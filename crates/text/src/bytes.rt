@@ -16,7 +16,11 @@ pub fn is_white(b: u8) -> bool
 fn is_allowed(b: u8) -> bool
     ensures { result ≡ allowed b }
 {
-    matches!(b, b' '..=b'~' | b'\t' | b'\n' | b'\r')
+    if b < b' ' {
+        matches!(b, b'\t' | b'\n' | b'\r')
+    } else {
+        b <= b'~'
+    }
 }
 
 #[tactic(auto, unfolding(rules::specs::Text::name_byte))]
@@ -55,11 +59,10 @@ pub fn is_name(token: &[u8]) -> bool
     token.iter().all(|b| is_name_byte(*b))
 }
 
-#[tactic(auto, using(crate::proofs::Mirror::has_any))]
 pub fn has_sharp(token: &[u8]) -> bool
     ensures { result ≡ sharp token.now }
 {
-    token.contains(&b'#')
+    prefix_len(token, |b| **b != b'#') < token.len()
 }
 
 #[tactic(auto, using(crate::proofs::Mirror::same_pointwise))]

@@ -1,20 +1,34 @@
 // The names of an items line, and their numbers.
-ghost use Rattle.std.specs.Prelude.{◌≤◌, length};
-ghost use Rattle.rules.specs.Text.{tokens};
+ghost use Rattle.std.specs.Prelude.{◌≡◌, ◌≤◌, filter, length, take};
+ghost use mathlib.Core.Bool.{beq};
+ghost use Rattle.rules.specs.Text.{sharp, tokens};
 
 use crate::bytes::{has_sharp, is_bar};
 use crate::pieces::Tokens;
 
 // The names of an items line: so many stand before its `|`, and others after it. Primary names with `#` are numbered
-// first or last, by the flag.
+// first or last, by the flag. How many are numbered first is counted once, and not at each name that is looked up.
 #[derive(Clone, Copy)]
 pub struct Names<'a> {
     pub items: &'a [u8],
     pub primaries: usize,
     pub secondary: &'a [u8],
     pub front: bool,
+    firsts: usize,
     ghost few: { (length (tokens items.now) ≤ 65536) × (length (tokens secondary.now) ≤ 65536) },
     ghost counted: { primaries ≤ length (tokens items.now) },
+    ghost ahead: { firsts ≡ length (filter (λ t. beq (sharp t) front) (take primaries (tokens items.now))) },
+}
+
+// How many of so many names of an items line have a `#`, or have none.
+fn count_of(items: &[u8], names: usize, with: bool) -> usize
+    requires { length (tokens items.now) ≤ 65536 }
+    ensures { result ≡ length (filter (λ t. beq (sharp t) with) (take names (tokens items.now))) }
+{
+    Tokens::of(items)
+        .take(names)
+        .filter(|t| has_sharp(t) == with)
+        .count()
 }
 
 impl<'a> Names<'a> {
@@ -41,6 +55,7 @@ impl<'a> Names<'a> {
             primaries,
             secondary: tokens.rest,
             front,
+            firsts: count_of(items, primaries, front),
         }
     }
 
@@ -56,17 +71,6 @@ impl<'a> Names<'a> {
             .position(|t| name == t)
     }
 
-    // How many primary names have a `#`, or have none.
-    fn count_of(&self, with: bool) -> usize
-        ensures value { result ≡ length (filter (λ t. beq (sharp t) with) (primary_names self.now)) }
-        ensures low { result ≤ 65536 }
-    {
-        Tokens::of(self.items)
-            .take(self.primaries)
-            .filter(|t| has_sharp(t) == with)
-            .count()
-    }
-
     // The number of a primary name.
     pub fn find_primary(&self, name: &[u8]) -> Option<usize>
         ensures value { result ≡ place 0 name.now (known self.now).primary }
@@ -77,7 +81,7 @@ impl<'a> Names<'a> {
         if with == self.front {
             Some(place)
         } else {
-            Some(self.count_of(!with) + place)
+            Some(self.firsts + place)
         }
     }
 

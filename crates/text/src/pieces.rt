@@ -27,14 +27,21 @@ impl<'a> Iterator for Tokens<'a> {
 
     ghost remaining = { item_count (λ s. tokens s.rest.now) };
 
+    // Each byte is looked at once: a token goes with the white byte behind it.
     fn next(&mut self) -> Option<&'a [u8]> {
-        let (_, line) = self.rest.split_at(prefix_len(self.rest, |b| is_white(**b)));
-        if line.is_empty() {
-            return None;
+        while !self.rest.is_empty() {
+            let line = self.rest;
+            let end = prefix_len(line, |b| !is_white(**b));
+            if end == line.len() {
+                self.rest = &[];
+                return Some(line);
+            }
+            self.rest = &line[end + 1..];
+            if end != 0 {
+                return Some(&line[..end]);
+            }
         }
-        let (token, rest) = line.split_at(prefix_len(line, |b| !is_white(**b)));
-        self.rest = rest;
-        Some(token)
+        None
     }
 }
 
@@ -91,12 +98,11 @@ pub fn count(line: &[u8]) -> usize
 }
 
 // Whether a line is blank or starts with `|`.
-#[tactic(auto, using(crate::proofs::Mirror::barred_starts))]
 pub fn is_passed(line: &[u8]) -> bool
     ensures { result ≡ passed (tokens line.now) }
 {
-    match Tokens::of(line).next() {
+    match line.iter().find(|b| !is_white(**b)) {
         None => true,
-        Some(token) => token.starts_with(b"|"),
+        Some(b) => *b == b'|',
     }
 }

@@ -22,6 +22,7 @@ invariant_of-result c =
     record {
       few = (let h = tokens_short c.args.items.now in omega arith, found_few F c.requires);
       counted = found_low F;
+      ahead = c.count_of.ensures;
     }
 
 pub returns-clause-value : goal.returns-clause-value
@@ -33,3 +34,6 @@ returns-clause-value c =
       | in_default w ↦ seek_end c.loop-token.invariant w.in_default.ensures.steps
     ] in
     found_items F c.args.front
+
+pub count_of-requires : goal.count_of-requires
+count_of-requires c = let h = tokens_short c.args.items.now in omega (arith, c.requires)
