@@ -6,7 +6,7 @@ use crate::figure::Figure;
 use arrayvec::ArrayVec;
 
 // How many figures go side by side.
-const TOGETHER: usize = 32;
+const TOGETHER: usize = 8;
 
 #[derive(Drop)]
 pub struct Output<'a> {
@@ -50,14 +50,14 @@ impl<'a> Output<'a> {
     }
 
     // A line with the figures of a list. Some figures at a time go side by side before they wait: each of them alone
-    // would cost a copy more.
+    // would cost a copy more. The space behind the last becomes the line's end.
     pub fn put_list<T: Figure>(&mut self, list: &[T]) {
-        let Some((last, others)) = list.split_last() else {
+        if list.is_empty() {
             self.put(b"\n");
             return;
-        };
+        }
         let mut text = [0u8; 22 * TOGETHER];
-        for part in others.chunks(TOGETHER) {
+        for part in list.chunks(TOGETHER) {
             let mut used = 0;
             for figure in part {
                 used += figure.write(&mut text[used..]);
@@ -66,7 +66,9 @@ impl<'a> Output<'a> {
             }
             self.put(&text[..used]);
         }
-        self.put_figure(*last, b'\n');
+        if let Some(last) = self.waiting.as_mut_slice().last_mut() {
+            *last = b'\n';
+        }
     }
 
     // The line that ends a run: `bad` and the number of the line that is no command.
