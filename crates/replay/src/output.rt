@@ -30,10 +30,10 @@ impl<'a> Output<'a> {
         self.waiting.clear();
     }
 
-    // Lets a text wait behind what does, which is written first where both do not fit.
+    // Lets a text wait behind what does, which is written first where both do not fit. No text is longer than all that
+    // can wait.
     pub fn put(&mut self, text: &[u8])
-        requires { length text.now ≤ 65536 }
-        ensures { Ends text.now self.new.waiting.items }
+        ensures { length text.now ≤ 65536 → Ends text.now self.new.waiting.items }
     {
         if self.waiting.try_extend_from_slice(text).is_err() {
             self.flush();
